@@ -1,0 +1,11 @@
+//! The proved functions over the C interface, each behind one safe function.
+
+extern "C" {
+    fn lambert_root_bits(b: u64) -> u64;
+}
+
+/// The bits of the root of the f64 with the bits `b`, or all ones where the root is refused.
+pub fn root_bits(b: u64) -> u64 {
+    // SAFETY: the function takes and returns a number and has no precondition.
+    unsafe { lambert_root_bits(b) }
+}

@@ -1,0 +1,14 @@
+mod WholeRoot
+mod Lengths
+mod Significands
+mod Patterns
+pub mod Comparisons
+mod Magnitudes
+pub mod Bits
+mod Rounds
+mod Normalising
+mod Assembly
+mod Cases
+pub mod Grid
+pub mod Law
+mod ClosedCases

@@ -1,0 +1,6 @@
+pub mod Notation
+pub mod Value
+pub mod Isqrt
+pub mod Root
+pub mod Nearness
+pub mod Internals

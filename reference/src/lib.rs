@@ -1,0 +1,5 @@
+//! The independent second program. It is written from the scope document alone and shares no code
+//! with the proved crates: where the two agree bit for bit, they agree for different reasons.
+
+pub mod random;
+pub mod root;

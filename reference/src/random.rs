@@ -1,0 +1,26 @@
+//! A fixed stream of pseudo-random words (SplitMix64), so that every run makes the same vectors.
+
+pub struct Random(u64);
+
+impl Random {
+    pub fn new(seed: u64) -> Self {
+        Random(seed)
+    }
+
+    pub fn word(&mut self) -> u64 {
+        self.0 = self.0.wrapping_add(0x9E37_79B9_7F4A_7C15);
+        let mut z = self.0;
+        z = (z ^ (z >> 30)).wrapping_mul(0xBF58_476D_1CE4_E5B9);
+        z = (z ^ (z >> 27)).wrapping_mul(0x94D0_49BB_1331_11EB);
+        z ^ (z >> 31)
+    }
+
+    /// A word of at most `n` bits.
+    pub fn bits(&mut self, n: u32) -> u64 {
+        if n == 0 {
+            0
+        } else {
+            self.word() >> (64 - n)
+        }
+    }
+}
