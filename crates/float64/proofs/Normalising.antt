@@ -1,4 +1,4 @@
--- What `normed` finds of a pattern, on plain numbers. Assumes nothing.
+-- What `normalised` finds of a positive pattern, on plain numbers: of a subnormal one (`normalised-low`) and of a normal one (`normalised-high`).
 use mathlib.Core.Path.{_≡_, refl, sym, ap, _∙_, subst}
 use Prim.Native.Nat.{ℕ, zero, suc, _+_, _-_, _*_, _/_, _%_, _^_, _≤_, _<_}
 use native.Mathlib.Nat.{mod-eq-of-lt, mul-one, add-zero}

@@ -9,7 +9,7 @@ abbrev pub unitsAt : ℕ → ℕ → ℕ
 unitsAt zero t = t * 2 ^ 0
 unitsAt (suc x) t = (2 ^ 52 + t) * 2 ^ x
 
--- the same of a bit pattern
+-- the same of the bit pattern of a positive finite f64
 unfoldable pub unitsOfBits : ℕ → ℕ
 unitsOfBits b = unitsAt (b / 2 ^ 52) (b % 2 ^ 52)
 
@@ -20,7 +20,7 @@ pub record Normalised (n s z : ℕ) : Type 0 where
   pub low : 2 ^ 52 ≤ s
   pub high : s < 2 ^ 53
 
--- a * 2 ^ 54 is n * 4 ^ 54 / 4 ^ k with nothing cut off, for k half of n's length
+-- a * 2 ^ 54 is n * 4 ^ 54 / 4 ^ k with nothing cut off, for k half of n's length, rounded up
 pub record Scaled (n a k : ℕ) : Type 0 where
   pub is-half : halfLength n ≡ k
   pub exact : n * 4 ^ 54 ≡ a * 2 ^ 54 * 4 ^ k
