@@ -10,8 +10,7 @@ mod operand;
 mod value;
 
 use digits::floor_root;
-use operand::normalised;
-use operand::scaled;
+use operand::operand_of;
 pub use value::from_bits;
 pub use value::is_finite;
 pub use value::magnitude;
@@ -43,7 +42,7 @@ fn positive_root(b: u64) -> f64
     requires { ⌜ (0 < b) × (b < 0x7FF0_0000_0000_0000) ⌝ }
     ensures { λ r. ⌜ r ≡ rootOfUnits (unitsOfBits b) ⌝ }
 {
-    let operand = scaled(normalised(b));
+    let operand = operand_of(b);
     let root = floor_root(operand.a);
     f64::from_bits((operand.k + 484) * 0x0010_0000_0000_0000 + (root + 1) / 2)
 }
