@@ -16,6 +16,13 @@ pub use value::is_finite;
 pub use value::magnitude;
 pub use value::to_bits;
 
+// Three components: a position in km, a velocity in km/s, or a direction.
+pub struct Vector {
+    pub x: f64,
+    pub y: f64,
+    pub z: f64,
+}
+
 // A square root, or, of a negative number, an infinity or a NaN, none.
 pub enum Root {
     Value(f64),
