@@ -1,0 +1,12 @@
+-- `conditions::no_plane` meets its contract: the definition's comparison, the literal being 2^-40.
+use mathlib.Core.Path.{refl}
+use Rattle.geometry.specs.Conditions.{noPlane}
+use Rattle.geometry.proofs.conditions.no_plane.Statement.{statement}
+use Rattle.geometry.proofs.conditions.no_plane.Tie as tie
+
+returns : tie.Need-returns
+unfolding noPlane
+returns c = refl
+
+pub no-plane-spec : {M : Type 1} → statement M
+no-plane-spec = tie.close (tie.spec returns)

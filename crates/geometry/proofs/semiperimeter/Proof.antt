@@ -1,0 +1,12 @@
+-- `semiperimeter` meets its contract: the definition's sum and quotient.
+use mathlib.Core.Path.{refl}
+use Rattle.geometry.specs.Triangles.{semiperimeterOf}
+use Rattle.geometry.proofs.semiperimeter.Statement.{statement}
+use Rattle.geometry.proofs.semiperimeter.Tie as tie
+
+returns : tie.Need-returns
+unfolding semiperimeterOf
+returns c = refl
+
+pub semiperimeter-spec : {M : Type 1} → statement M
+semiperimeter-spec = tie.close (tie.spec returns)

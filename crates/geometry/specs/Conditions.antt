@@ -1,0 +1,27 @@
+-- The conditions of 3, 8, 9 and 10 (01, Numbers of refusal). Definitions only.
+use mathlib.Core.Bool.{Bool, not, _||_}
+use lib.Ieee.{Float}
+use Rattle.float64.specs.Notation.{_⊖_, _⊗_, _⊘_, _≺_, _≼_, bits, 0F, 1F}
+use Rattle.float64.specs.Value.{finiteOf}
+use Rattle.geometry.specs.declared.Triangle.{Triangle}
+use Rattle.geometry.specs.declared.Shape.{Shape}
+
+-- isn't finite, below the first number or above the second
+unfoldable pub outsideOf : Float → Float → Float → Bool
+outsideOf low high x = not (finiteOf x) || ((x ≺ low) || (high ≺ x))
+
+-- 3: a radius is below 1 or above 2^40
+unfoldable pub radiusOutside : Shape → Bool
+radiusOutside g = outsideOf 1F (bits 0x4270_0000_0000_0000) (g .radius1) || outsideOf 1F (bits 0x4270_0000_0000_0000) (g .radius2)
+
+-- 8: hh ≤ (q1·q2)·2^-40
+unfoldable pub noPlane : Shape → Bool
+noPlane g = g .hh ≼ (g .q1 ⊗ g .q2) ⊗ bits 0x3D70_0000_0000_0000
+
+-- 9: c/s < 2^-10
+unfoldable pub shortChord : Triangle → Bool
+shortChord t = t .chord ⊘ t .semiperimeter ≺ bits 0x3F50_0000_0000_0000
+
+-- 10: 1 − ρ·ρ ≤ 0
+unfoldable pub flatTriangle : Triangle → Bool
+flatTriangle t = 1F ⊖ t .rho ⊗ t .rho ≼ 0F

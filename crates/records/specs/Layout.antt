@@ -1,0 +1,112 @@
+-- The layout of every record, once (01, Records on the wire): each field's offset and width in bytes. Definitions only; the code's tables of widths are tied to these by its contracts.
+use Prim.Native.Nat.{ℕ, zero, suc, _+_}
+use mathlib.Core.Bool.{Bool, true, false, _&&_}
+use mathlib.Core.List.{List, [], _∷_, _++_}
+use lib.Dec.{eqb}
+use Rattle.records.specs.Bytes.{bytesOf, numberAt}
+
+pub record Field : Type 0 where
+  pub offset : ℕ
+  pub width : ℕ
+
+abbrev pub field : ℕ → ℕ → Field
+field o w = record { offset = o; width = w }
+
+-- what every record begins with: the length, counting what follows it, and the kind; then job and revision
+abbrev pub LENGTH : Field
+LENGTH = field 0 4
+
+abbrev pub KIND : Field
+KIND = field 4 2
+
+abbrev pub JOB : Field
+JOB = field 6 4
+
+abbrev pub REVISION : Field
+REVISION = field 10 4
+
+-- kind 1, a question: whole revolutions M, way (0 short, 1 long), spare, the positions r1 and r2, mu, time
+abbrev pub REVOLUTIONS : Field
+REVOLUTIONS = field 14 2
+
+abbrev pub WAY : Field
+WAY = field 16 1
+
+abbrev pub SPARE : Field
+SPARE = field 17 1
+
+abbrev pub R1X : Field
+R1X = field 18 8
+
+abbrev pub R1Y : Field
+R1Y = field 26 8
+
+abbrev pub R1Z : Field
+R1Z = field 34 8
+
+abbrev pub R2X : Field
+R2X = field 42 8
+
+abbrev pub R2Y : Field
+R2Y = field 50 8
+
+abbrev pub R2Z : Field
+R2Z = field 58 8
+
+abbrev pub MU : Field
+MU = field 66 8
+
+abbrev pub TIME : Field
+TIME = field 74 8
+
+-- kind 2, an answer: the number of its entries; kind 3, a refusal: its number
+abbrev pub LAST : Field
+LAST = field 14 2
+
+-- an entry of an answer: the bracket's lower end, the halvings, the chosen end (0 lower, 1 upper), the velocities v1 and v2
+abbrev pub LOWER : Field
+LOWER = field 0 8
+
+abbrev pub HALVINGS : Field
+HALVINGS = field 8 4
+
+abbrev pub CHOSEN : Field
+CHOSEN = field 12 4
+
+abbrev pub V1X : Field
+V1X = field 16 8
+
+abbrev pub V1Y : Field
+V1Y = field 24 8
+
+abbrev pub V1Z : Field
+V1Z = field 32 8
+
+abbrev pub V2X : Field
+V2X = field 40 8
+
+abbrev pub V2Y : Field
+V2Y = field 48 8
+
+abbrev pub V2Z : Field
+V2Z = field 56 8
+
+-- the tables: the fields of each record in their order
+unfoldable pub questionFields : List Field
+questionFields =
+    LENGTH ∷ KIND ∷ JOB ∷ REVISION ∷ REVOLUTIONS ∷ WAY ∷ SPARE ∷ R1X ∷ R1Y ∷ R1Z ∷ R2X ∷ R2Y ∷ R2Z ∷ MU ∷ TIME ∷ []
+
+unfoldable pub headFields : List Field
+headFields = LENGTH ∷ KIND ∷ JOB ∷ REVISION ∷ LAST ∷ []
+
+unfoldable pub entryFields : List Field
+entryFields = LOWER ∷ HALVINGS ∷ CHOSEN ∷ V1X ∷ V1Y ∷ V1Z ∷ V2X ∷ V2Y ∷ V2Z ∷ []
+
+-- the number that a field of some bytes holds, and the bytes of a record whose fields hold some numbers
+abbrev pub valueOf : Field → List ℕ → ℕ
+valueOf f s = numberAt (f .width) s (f .offset)
+
+unfoldable pub encode : List Field → List ℕ → List ℕ
+encode [] vs = []
+encode (f ∷ fs) [] = []
+encode (f ∷ fs) (v ∷ vs) = bytesOf (f .width) v ++ encode fs vs

@@ -1,0 +1,89 @@
+-- What each record's bytes say, and the bytes of each record (01, Records on the wire). Definitions only.
+use Prim.Native.Nat.{ℕ, _+_, _*_}
+use mathlib.Core.List.{List, [], _∷_}
+use lib.Ieee.{Float}
+use Rattle.float64.specs.Notation.{bits, bitsOf}
+use Rattle.float64.specs.declared.Vector.{Vector}
+use Rattle.records.specs.Bytes.{signedBits, signedOf}
+use Rattle.records.specs.Layout.{Field, LENGTH, KIND, JOB, REVISION, REVOLUTIONS, WAY, SPARE, R1X, R1Y, R1Z, R2X, R2Y, R2Z, MU, TIME, LAST, LOWER, HALVINGS, CHOSEN, V1X, V1Y, V1Z, V2X, V2Y, V2Z, questionFields, headFields, entryFields, valueOf, encode}
+use Rattle.records.specs.declared.Question.{Question}
+use Rattle.records.specs.declared.Head.{Head}
+use Rattle.records.specs.declared.Entry.{Entry}
+
+-- three f64 fields
+abbrev pub vectorOf : Field → Field → Field → List ℕ → Vector
+vectorOf fx fy fz s = record { x = bits (valueOf fx s); y = bits (valueOf fy s); z = bits (valueOf fz s) }
+
+-- a question, from its bytes and to them
+unfoldable pub questionOf : List ℕ → Question
+questionOf s = record {
+  length = valueOf LENGTH s;
+  kind = valueOf KIND s;
+  job = valueOf JOB s;
+  revision = valueOf REVISION s;
+  revolutions = valueOf REVOLUTIONS s;
+  way = valueOf WAY s;
+  spare = valueOf SPARE s;
+  r1 = vectorOf R1X R1Y R1Z s;
+  r2 = vectorOf R2X R2Y R2Z s;
+  mu = bits (valueOf MU s);
+  time = bits (valueOf TIME s);
+}
+
+unfoldable pub questionBytes : Question → List ℕ
+questionBytes q =
+    encode questionFields
+    (q .length
+    ∷ q .kind
+    ∷ q .job
+    ∷ q .revision
+    ∷ q .revolutions
+    ∷ q .way
+    ∷ q .spare
+    ∷ bitsOf (q .r1 .x)
+    ∷ bitsOf (q .r1 .y)
+    ∷ bitsOf (q .r1 .z)
+    ∷ bitsOf (q .r2 .x)
+    ∷ bitsOf (q .r2 .y)
+    ∷ bitsOf (q .r2 .z)
+    ∷ bitsOf (q .mu)
+    ∷ bitsOf (q .time)
+    ∷ [])
+
+-- the 16 bytes of a refusal, and those that an answer begins with
+unfoldable pub headOf : List ℕ → Head
+headOf s = record { length = valueOf LENGTH s; kind = valueOf KIND s; job = valueOf JOB s; revision = valueOf REVISION s; last = valueOf LAST s }
+
+unfoldable pub headBytes : Head → List ℕ
+headBytes h = encode headFields (h .length ∷ h .kind ∷ h .job ∷ h .revision ∷ h .last ∷ [])
+
+-- a refusal of kind 3 with its number, and the head of an answer of kind 2 with n entries
+unfoldable pub refusalOf : ℕ → ℕ → ℕ → Head
+refusalOf job revision number = record { length = 12; kind = 3; job = job; revision = revision; last = number }
+
+unfoldable pub answerHeadOf : ℕ → ℕ → ℕ → Head
+answerHeadOf job revision n = record { length = 12 + 64 * n; kind = 2; job = job; revision = revision; last = n }
+
+-- an entry of an answer
+unfoldable pub entryOf : List ℕ → Entry
+entryOf s = record {
+  lower = signedOf (valueOf LOWER s);
+  halvings = valueOf HALVINGS s;
+  chosen = valueOf CHOSEN s;
+  v1 = vectorOf V1X V1Y V1Z s;
+  v2 = vectorOf V2X V2Y V2Z s;
+}
+
+unfoldable pub entryBytes : Entry → List ℕ
+entryBytes e =
+    encode entryFields
+    (signedBits (e .lower)
+    ∷ e .halvings
+    ∷ e .chosen
+    ∷ bitsOf (e .v1 .x)
+    ∷ bitsOf (e .v1 .y)
+    ∷ bitsOf (e .v1 .z)
+    ∷ bitsOf (e .v2 .x)
+    ∷ bitsOf (e .v2 .y)
+    ∷ bitsOf (e .v2 .z)
+    ∷ [])

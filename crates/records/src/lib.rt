@@ -1,0 +1,54 @@
+// The records of 01, read from bytes and written to them. An integer of a record is held as the
+// number that its bytes make. Reading takes any bytes, one past the end counting as 0; writing
+// starts at the buffer's first byte, and where there is no room it changes nothing and says so.
+mod bytes;
+mod entries;
+mod fields;
+mod heads;
+mod questions;
+mod words;
+
+pub use entries::read_entry;
+pub use entries::write_entry;
+use float64::Vector;
+pub use heads::answer_head;
+pub use heads::read_head;
+pub use heads::refusal;
+pub use heads::write_head;
+pub use questions::read_question;
+pub use questions::write_question;
+
+// A question (kind 1).
+pub struct Question {
+    pub length: u64,
+    pub kind: u64,
+    pub job: u64,
+    pub revision: u64,
+    pub revolutions: u64,
+    pub way: u64,
+    pub spare: u64,
+    pub r1: Vector,
+    pub r2: Vector,
+    pub mu: f64,
+    pub time: f64,
+}
+
+// A refusal (kind 3), or what an answer (kind 2) begins with: last is the number of the refusal, or
+// of the entries.
+pub struct Head {
+    pub length: u64,
+    pub kind: u64,
+    pub job: u64,
+    pub revision: u64,
+    pub last: u64,
+}
+
+// An entry of an answer: the bracket's lower end, how often it was halved, which end was chosen (0
+// the lower, 1 the upper), and the velocities there.
+pub struct Entry {
+    pub lower: i64,
+    pub halvings: u64,
+    pub chosen: u64,
+    pub v1: Vector,
+    pub v2: Vector,
+}
