@@ -1,0 +1,12 @@
+-- `checks::is_malformed` meets its contract: the code's tests are the definition's.
+use mathlib.Core.Path.{refl}
+use Rattle.entrance.specs.Conditions.{malformed}
+use Rattle.entrance.proofs.checks.is_malformed.Statement.{statement}
+use Rattle.entrance.proofs.checks.is_malformed.Tie as tie
+
+returns : tie.Need-returns
+unfolding malformed
+returns c = refl
+
+pub is-malformed-spec : {M : Type 1} → statement M
+is-malformed-spec = tie.close (tie.spec returns)

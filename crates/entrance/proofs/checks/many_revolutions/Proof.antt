@@ -1,0 +1,12 @@
+-- `checks::many_revolutions` meets its contract.
+use mathlib.Core.Path.{refl}
+use Rattle.entrance.specs.Conditions.{manyRevolutions}
+use Rattle.entrance.proofs.checks.many_revolutions.Statement.{statement}
+use Rattle.entrance.proofs.checks.many_revolutions.Tie as tie
+
+returns : tie.Need-returns
+unfolding manyRevolutions
+returns c = refl
+
+pub many-revolutions-spec : {M : Type 1} → statement M
+many-revolutions-spec = tie.close (tie.spec returns)

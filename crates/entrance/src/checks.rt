@@ -1,0 +1,98 @@
+// The entrance checks, each on its own, and the first that applies.
+ghost use mathlib.Core.Path.{_≡_};
+ghost use mathlib.Core.Bool.{cond};
+ghost use Rattle.geometry.specs.Conditions.{radiusOutside, noPlane, shortChord, flatTriangle};
+ghost use Rattle.entrance.specs.Conditions.{malformed, farOff, positionFar, positionsFar, muOutside, timeOutside, manyRevolutions, smallBuffer};
+ghost use Rattle.entrance.specs.Judge.{checks, firstOf};
+use float64::Vector;
+use geometry::Shape;
+use records::Question;
+
+fn is_malformed(size: usize, q: Question) -> bool
+    ensures { λ r. ⌜ r ≡ malformed size q ⌝ }
+{
+    (size != 82)
+        | ((q.length != 78) | ((q.kind != 1) | ((q.job == 0) | ((q.way > 1) | (q.spare != 0)))))
+}
+
+// Whether a component isn't finite or exceeds 2^40 in size.
+fn far_off(x: f64) -> bool
+    ensures { λ r. ⌜ r ≡ farOff x ⌝ }
+{
+    !float64::is_finite(x) | (1099511627776.0 < float64::magnitude(x))
+}
+
+fn position_far(v: Vector) -> bool
+    ensures { λ r. ⌜ r ≡ positionFar v ⌝ }
+{
+    far_off(v.x) | (far_off(v.y) | far_off(v.z))
+}
+
+fn positions_far(q: Question) -> bool
+    ensures { λ r. ⌜ r ≡ positionsFar q ⌝ }
+{
+    let r1 = q.r1;
+    let r2 = q.r2;
+    position_far(r1) | position_far(r2)
+}
+
+fn mu_outside(q: Question) -> bool
+    ensures { λ r. ⌜ r ≡ muOutside q ⌝ }
+{
+    geometry::outside(1.0, 1152921504606846976.0, q.mu)
+}
+
+fn time_outside(q: Question) -> bool
+    ensures { λ r. ⌜ r ≡ timeOutside q ⌝ }
+{
+    geometry::outside(1.0, 1099511627776.0, q.time)
+}
+
+fn many_revolutions(q: Question) -> bool
+    ensures { λ r. ⌜ r ≡ manyRevolutions q ⌝ }
+{
+    q.revolutions > 16
+}
+
+fn small_buffer(room: usize) -> bool
+    ensures { λ r. ⌜ r ≡ smallBuffer room ⌝ }
+{
+    room < 528
+}
+
+// The number n where the check applies, and otherwise what the later checks gave.
+fn pick(applies: bool, n: u16, rest: u16) -> u16
+    ensures { λ r. ⌜ r ≡ cond applies n rest ⌝ }
+{
+    if applies { n } else { rest }
+}
+
+// Checks 8 to 10, or 0.
+fn shape_fault(shape: Shape) -> u16
+    ensures { λ r. ⌜ r ≡ cond (noPlane shape) 8 (cond (shortChord (shape .triangle)) 9 (cond (flatTriangle (shape .triangle)) 10 0)) ⌝ }
+{
+    let triangle = shape.triangle;
+    let flat = pick(geometry::flat_triangle(triangle), 10, 0);
+    let short = pick(geometry::short_chord(triangle), 9, flat);
+    pick(geometry::no_plane(shape), 8, short)
+}
+
+// Checks 4 to 7, or what the later ones gave.
+fn number_fault(q: Question, room: usize, rest: u16) -> u16
+    ensures { λ r. ⌜ r ≡ cond (muOutside q) 4 (cond (timeOutside q) 5 (cond (manyRevolutions q) 6 (cond (smallBuffer room) 7 rest))) ⌝ }
+{
+    let small = pick(small_buffer(room), 7, rest);
+    let many = pick(many_revolutions(q), 6, small);
+    let time = pick(time_outside(q), 5, many);
+    pick(mu_outside(q), 4, time)
+}
+
+// The number of the first check that applies, and 0 where none does.
+pub(crate) fn first_fault(size: usize, room: usize, q: Question, shape: Shape) -> u16
+    ensures { λ r. ⌜ r ≡ firstOf (checks size room q shape) ⌝ }
+{
+    let rest = number_fault(q, room, shape_fault(shape));
+    let radius = pick(geometry::radius_outside(shape), 3, rest);
+    let far = pick(positions_far(q), 2, radius);
+    pick(is_malformed(size, q), 1, far)
+}
