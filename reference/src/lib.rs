@@ -1,5 +1,9 @@
 //! The independent second program. It is written from the scope document alone and shares no code
 //! with the proved crates: where the two agree bit for bit, they agree for different reasons.
 
+pub mod entrance;
+pub mod questions;
 pub mod random;
 pub mod root;
+pub mod triangle;
+pub mod wire;

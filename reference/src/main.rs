@@ -1,17 +1,22 @@
 //! The commands of the independent second program. Each writes vectors to standard output.
 
-use reference::root;
+use reference::{entrance, questions, root};
 use std::io::{BufWriter, Write};
 use std::process::ExitCode;
 
-const USAGE: &str = "usage: reference root
-  root   a line for each operand: its bits and the bits of its root, as hexadecimal digits";
+const USAGE: &str = "usage: reference root | entrance questions | entrance verdicts
+  root                 a line for each operand: its bits and the bits of its root, as hexadecimal digits
+  entrance questions   a frame for each case: size and room, u16 little-endian, then the question's
+                       bytes with zeros up to 120
+  entrance verdicts    a line for each case: the number of its refusal, or 0 and 22 hexadecimal words";
 
 fn main() -> ExitCode {
     let words: Vec<String> = std::env::args().skip(1).collect();
     let mut out = BufWriter::new(std::io::stdout().lock());
     let done = match words.iter().map(String::as_str).collect::<Vec<_>>()[..] {
         ["root"] => write_roots(&mut out),
+        ["entrance", "questions"] => write_questions(&mut out),
+        ["entrance", "verdicts"] => write_verdicts(&mut out),
         _ => {
             eprintln!("{USAGE}");
             return ExitCode::from(2);
@@ -29,6 +34,17 @@ fn main() -> ExitCode {
 fn write_roots(out: &mut impl Write) -> std::io::Result<()> {
     for b in root::operands() {
         writeln!(out, "{:016x} {:016x}", b, root::root_bits(b))?;
+    }
+    Ok(())
+}
+
+fn write_questions(out: &mut impl Write) -> std::io::Result<()> {
+    questions::cases().iter().try_for_each(|case| out.write_all(&case.frame()))
+}
+
+fn write_verdicts(out: &mut impl Write) -> std::io::Result<()> {
+    for case in questions::cases() {
+        writeln!(out, "{}", entrance::line(entrance::judge(&case.bytes, case.room.into())))?;
     }
     Ok(())
 }

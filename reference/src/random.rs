@@ -23,4 +23,14 @@ impl Random {
             self.word() >> (64 - n)
         }
     }
+
+    /// A whole number below `n`, for a small `n`.
+    pub fn below(&mut self, n: u64) -> u64 {
+        self.word() % n
+    }
+
+    /// A float from 0 to below 1, of 53 random bits.
+    pub fn fraction(&mut self) -> f64 {
+        self.bits(53) as f64 / (1u64 << 53) as f64
+    }
 }

@@ -6,13 +6,10 @@ use lib.Ieee.{Float}
 use Rattle.float64.specs.Notation.{_≺_, bits, 1F}
 use Rattle.float64.specs.Value.{finiteOf, magnitudeOf}
 use Rattle.float64.specs.declared.Vector.{Vector}
-use Rattle.geometry.specs.Conditions.{outsideOf}
+use Rattle.geometry.specs.Conditions.{outsideOf, 2^40F}
 use Rattle.records.specs.declared.Question.{Question}
 
--- 2^40 and 2^60
-abbrev pub 2^40F : Float
-2^40F = bits 0x4270_0000_0000_0000
-
+-- 2^60
 abbrev pub 2^60F : Float
 2^60F = bits 0x43B0_0000_0000_0000
 

@@ -26,7 +26,7 @@ check n b = record { number = n; applies = b }
 abbrev pub longWay : Question → Bool
 longWay q = eqb (q .way) 1
 
--- the table, in its order
+-- the entrance checks of the table, in its order
 unfoldable pub checks : ℕ → ℕ → Question → Shape → List Check
 checks size room q g =
     check 1 (malformed size q)

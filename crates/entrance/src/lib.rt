@@ -15,9 +15,9 @@ use records::Question;
 // What is to be solved: the question's own numbers, its triangle and unit vectors, and the wanted
 // time in the triangle's unit.
 pub struct Problem {
-    pub job: u64,
-    pub revision: u64,
-    pub revolutions: u64,
+    pub job: u32,
+    pub revision: u32,
+    pub revolutions: u16,
     pub long_way: bool,
     pub mu: f64,
     pub time: f64,

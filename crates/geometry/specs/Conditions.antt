@@ -1,4 +1,5 @@
 -- The conditions of 3, 8, 9 and 10 (01, Numbers of refusal). Definitions only.
+-- A comparison with a NaN is false, so that each of 8, 9 and 10 says something only where the checks before it do not apply.
 use mathlib.Core.Bool.{Bool, not, _||_}
 use lib.Ieee.{Float}
 use Rattle.float64.specs.Notation.{_⊖_, _⊗_, _⊘_, _≺_, _≼_, bits, 0F, 1F}
@@ -10,9 +11,13 @@ use Rattle.geometry.specs.declared.Shape.{Shape}
 unfoldable pub outsideOf : Float → Float → Float → Bool
 outsideOf low high x = not (finiteOf x) || ((x ≺ low) || (high ≺ x))
 
--- 3: a radius is below 1 or above 2^40
+-- 2^40
+abbrev pub 2^40F : Float
+2^40F = bits 0x4270_0000_0000_0000
+
+-- 3: a radius is below 1 or above 2^40. A root that is refused, and so is no radius, counts as outside too; check 2 lets none through
 unfoldable pub radiusOutside : Shape → Bool
-radiusOutside g = outsideOf 1F (bits 0x4270_0000_0000_0000) (g .radius1) || outsideOf 1F (bits 0x4270_0000_0000_0000) (g .radius2)
+radiusOutside g = outsideOf 1F 2^40F (g .radius1) || outsideOf 1F 2^40F (g .radius2)
 
 -- 8: hh ≤ (q1·q2)·2^-40
 unfoldable pub noPlane : Shape → Bool

@@ -27,7 +27,7 @@ triangleOf r1 r2 c long =
     let ρ = (r1 ⊖ r2) ⊘ c in
     record { lambda = lambdaOf c s long; semiperimeter = s; chord = c; rho = ρ; sigma = rootOrNan (1F ⊖ ρ ⊗ ρ) }
 
--- all that the entrance checks and later steps ask of two positions: q and r of each, h and hh, and the triangle
+-- what the entrance checks ask of two positions: q and r of each, h and hh, and the triangle
 unfoldable pub shapeOf : Vector → Vector → Bool → Shape
 shapeOf p1 p2 long =
     let q1 = normSquared p1 in
@@ -45,7 +45,7 @@ shapeOf p1 p2 long =
       triangle = triangleOf r1 r2 (rootOrNan (normSquared (difference p2 p1))) long;
     }
 
--- the unit vectors (01, Velocities): the normal n = h / √hh, negated for the long way, and u_i = position / r_i by component
+-- the unit vectors (01, Velocities), for the same positions and way as the shape: the normal n = h / √hh, negated for the long way, and u_i = position / r_i by component
 unfoldable pub frameOf : Vector → Vector → Shape → Bool → Frame
 frameOf p1 p2 g long =
     let n = dividedBy (g .h) (rootOrNan (g .hh)) in

@@ -1,4 +1,4 @@
--- Sums, products and lengths of vectors, in 01's order of operations (01, Triangle). Definitions only.
+-- Vectors by component, in 01's order of operations (01, Triangle): q, differences, cross products, quotients. Definitions only.
 use lib.Ieee.{Float, nan, neg}
 use Rattle.float64.specs.Notation.{_⊕_, _⊖_, _⊗_, _⊘_}
 use Rattle.float64.specs.Root.{rootOf}
@@ -29,7 +29,7 @@ dividedBy v d = record { x = v .x ⊘ d; y = v .y ⊘ d; z = v .z ⊘ d }
 unfoldable pub opposite : Vector → Vector
 opposite v = record { x = neg (v .x); y = neg (v .y); z = neg (v .z) }
 
--- The root, where the steps want a number: NaN stands for a refused root. (No question past the entrance checks meets one.)
+-- The root, where the steps want a number: NaN stands for a refused root.
 unfoldable pub rootOrNan : Float → Float
 rootOrNan x = given (rootOf x)
   where

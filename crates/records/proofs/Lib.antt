@@ -2,6 +2,7 @@ mod Numbers
 mod Tabled
 mod Twos
 mod Writing
-mod Sizes
-mod Tables
+pub mod Sizes
+pub mod Tables
 pub mod RoundTrip
+pub mod Answers

@@ -6,6 +6,8 @@ use native.Mathlib.Nat.{lt-of-lt-of-le}
 use native.Mathlib.Omega.{arith}
 use lib.ListN.{getD}
 use lib.Pow.{pow-add, pow-mono}
+use mir.Syntax.{w8}
+use mir.Val.{Fits}
 use Rattle.records.specs.Bytes.{numberAt}
 
 pub within : (k v : ℕ) → k ≤ 7 → v < 2 ^ (8 * k) → v < 2 ^ 56
@@ -38,3 +40,17 @@ more s at w l v b p h e f =
 
     sum : (x y : ℕ) → x * 256 + y ≡ y + 256 * x
     sum x y = omega arith
+
+-- a number of w bytes, in a list of bytes, is below 2 ^ (8 * w)
+pub number-lt : (s : List ℕ) → ((i : ℕ) → Fits w8 (getD s i 0)) → (w at : ℕ) → numberAt w s at < 2 ^ (8 * w)
+unfolding numberAt
+number-lt s h zero at = omega arith
+number-lt s h (suc w) at =
+    subst (λ (x : ℕ). getD s at 0 + 256 * numberAt w s (at + 1) < x) (sym (ap (λ (x : ℕ). 2 ^ x) (eight w) ∙ pow-add 2 (8 * w) 8))
+    (fit (getD s at 0) (numberAt w s (at + 1)) (2 ^ (8 * w)) (h at .fits) (number-lt s h w (at + 1)))
+  where
+    eight : (x : ℕ) → 8 * suc x ≡ 8 * x + 8
+    eight x = omega arith
+
+    fit : (b v p : ℕ) → b < 256 → v < p → b + 256 * v < p * 2 ^ 8
+    fit b v p f g = omega arith

@@ -1,6 +1,7 @@
--- The layout of every record, once (01, Records on the wire): each field's offset and width in bytes. Definitions only; the code's tables of widths are tied to these by its contracts.
-use Prim.Native.Nat.{ℕ, zero, suc, _+_}
-use mathlib.Core.Bool.{Bool, true, false, _&&_}
+-- The layout of the question, the refusal, the answer's head and its entries, once (01, Records on the wire): each field's offset and width in bytes. Definitions only.
+-- The code's tables of widths are tied to these by its contracts. `tiles` says that a table has no gap and no overlap.
+use Prim.Native.Nat.{ℕ, _+_}
+use mathlib.Core.Bool.{Bool, _&&_}
 use mathlib.Core.List.{List, [], _∷_, _++_}
 use lib.Dec.{eqb}
 use Rattle.records.specs.Bytes.{bytesOf, numberAt}
@@ -12,7 +13,7 @@ pub record Field : Type 0 where
 abbrev pub field : ℕ → ℕ → Field
 field o w = record { offset = o; width = w }
 
--- what every record begins with: the length, counting what follows it, and the kind; then job and revision
+-- what a question, an answer and a refusal begin with: the length, counting what follows it, and the kind; then job and revision
 abbrev pub LENGTH : Field
 LENGTH = field 0 4
 
@@ -110,3 +111,8 @@ unfoldable pub encode : List Field → List ℕ → List ℕ
 encode [] vs = []
 encode (f ∷ fs) [] = []
 encode (f ∷ fs) (v ∷ vs) = bytesOf (f .width) v ++ encode fs vs
+
+-- whether fields stand one after another from `at` up to `end`
+unfoldable pub tiles : ℕ → List Field → ℕ → Bool
+tiles at [] end = eqb at end
+tiles at (f ∷ fs) end = eqb (f .offset) at && tiles (at + f .width) fs end

@@ -1,7 +1,8 @@
 -- What each record's bytes say, and the bytes of each record (01, Records on the wire). Definitions only.
 use Prim.Native.Nat.{ℕ, _+_, _*_}
-use mathlib.Core.List.{List, [], _∷_}
+use mathlib.Core.List.{List, [], _∷_, _++_}
 use lib.Ieee.{Float}
+use lib.ListN.{length}
 use Rattle.float64.specs.Notation.{bits, bitsOf}
 use Rattle.float64.specs.declared.Vector.{Vector}
 use Rattle.records.specs.Bytes.{signedBits, signedOf}
@@ -87,3 +88,11 @@ entryBytes e =
     ∷ bitsOf (e .v2 .y)
     ∷ bitsOf (e .v2 .z)
     ∷ [])
+
+-- an answer as a whole: the head with the number of entries, and the entries one after another
+unfoldable pub entriesBytes : List Entry → List ℕ
+entriesBytes [] = []
+entriesBytes (e ∷ es) = entryBytes e ++ entriesBytes es
+
+unfoldable pub answerBytes : ℕ → ℕ → List Entry → List ℕ
+answerBytes job revision es = headBytes (answerHeadOf job revision (length es)) ++ entriesBytes es

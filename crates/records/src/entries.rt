@@ -21,8 +21,8 @@ pub fn read_entry(s: &[u8]) -> Entry
     let v2 = vector_of(v[6], v[7], v[8]);
     Entry {
         lower,
-        halvings: v[1],
-        chosen: v[2],
+        halvings: v[1] as u32,
+        chosen: v[2] as u32,
         v1,
         v2,
     }
@@ -41,8 +41,8 @@ pub fn write_entry(out: &mut [u8], e: Entry) -> bool
     let b = words_of(v2);
     let values = [
         lower,
-        e.halvings,
-        e.chosen,
+        e.halvings as u64,
+        e.chosen as u64,
         a.x,
         a.y,
         a.z,

@@ -13,11 +13,11 @@ pub fn read_head(s: &[u8]) -> Head
 {
     let v = numbers(s, WIDTHS);
     Head {
-        length: v[0],
-        kind: v[1],
-        job: v[2],
-        revision: v[3],
-        last: v[4],
+        length: v[0] as u32,
+        kind: v[1] as u16,
+        job: v[2] as u32,
+        revision: v[3] as u32,
+        last: v[4] as u16,
     }
 }
 
@@ -28,11 +28,11 @@ pub fn write_head(out: &mut [u8], h: Head) -> bool
         return false;
     }
     let values = [
-        h.length,
-        h.kind,
-        h.job,
-        h.revision,
-        h.last,
+        h.length as u64,
+        h.kind as u64,
+        h.job as u64,
+        h.revision as u64,
+        h.last as u64,
         0,
         0,
         0,
@@ -52,7 +52,7 @@ pub fn write_head(out: &mut [u8], h: Head) -> bool
 }
 
 // A refusal with its number.
-pub fn refusal(job: u64, revision: u64, number: u64) -> Head
+pub fn refusal(job: u32, revision: u32, number: u16) -> Head
     ensures { λ r. ⌜ r ≡ refusalOf job revision number ⌝ }
 {
     Head {
@@ -65,15 +65,14 @@ pub fn refusal(job: u64, revision: u64, number: u64) -> Head
 }
 
 // What an answer with so many entries begins with.
-pub fn answer_head(job: u64, revision: u64, entries: u8) -> Head
+pub fn answer_head(job: u32, revision: u32, entries: u8) -> Head
     ensures { λ r. ⌜ r ≡ answerHeadOf job revision entries ⌝ }
 {
-    let n = entries as u64;
     Head {
-        length: 12 + 64 * n,
+        length: 12 + 64 * (entries as u32),
         kind: 2,
         job,
         revision,
-        last: n,
+        last: entries as u16,
     }
 }

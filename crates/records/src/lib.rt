@@ -1,5 +1,4 @@
-// The records of 01, read from bytes and written to them. An integer of a record is held as the
-// number that its bytes make. Reading takes any bytes, one past the end counting as 0; writing
+// The records of 01, read from bytes and written to them. Reading takes any bytes, one past the end counting as 0; writing
 // starts at the buffer's first byte, and where there is no room it changes nothing and says so.
 mod bytes;
 mod entries;
@@ -20,13 +19,13 @@ pub use questions::write_question;
 
 // A question (kind 1).
 pub struct Question {
-    pub length: u64,
-    pub kind: u64,
-    pub job: u64,
-    pub revision: u64,
-    pub revolutions: u64,
-    pub way: u64,
-    pub spare: u64,
+    pub length: u32,
+    pub kind: u16,
+    pub job: u32,
+    pub revision: u32,
+    pub revolutions: u16,
+    pub way: u8,
+    pub spare: u8,
     pub r1: Vector,
     pub r2: Vector,
     pub mu: f64,
@@ -36,19 +35,19 @@ pub struct Question {
 // A refusal (kind 3), or what an answer (kind 2) begins with: last is the number of the refusal, or
 // of the entries.
 pub struct Head {
-    pub length: u64,
-    pub kind: u64,
-    pub job: u64,
-    pub revision: u64,
-    pub last: u64,
+    pub length: u32,
+    pub kind: u16,
+    pub job: u32,
+    pub revision: u32,
+    pub last: u16,
 }
 
 // An entry of an answer: the bracket's lower end, how often it was halved, which end was chosen (0
 // the lower, 1 the upper), and the velocities there.
 pub struct Entry {
     pub lower: i64,
-    pub halvings: u64,
-    pub chosen: u64,
+    pub halvings: u32,
+    pub chosen: u32,
     pub v1: Vector,
     pub v2: Vector,
 }

@@ -17,13 +17,13 @@ pub fn read_question(s: &[u8]) -> Question
     let r1 = vector_of(v[7], v[8], v[9]);
     let r2 = vector_of(v[10], v[11], v[12]);
     Question {
-        length: v[0],
-        kind: v[1],
-        job: v[2],
-        revision: v[3],
-        revolutions: v[4],
-        way: v[5],
-        spare: v[6],
+        length: v[0] as u32,
+        kind: v[1] as u16,
+        job: v[2] as u32,
+        revision: v[3] as u32,
+        revolutions: v[4] as u16,
+        way: v[5] as u8,
+        spare: v[6] as u8,
         r1,
         r2,
         mu: float64::from_bits(v[13]),
@@ -44,13 +44,13 @@ pub fn write_question(out: &mut [u8], q: Question) -> bool
     let mu = float64::to_bits(q.mu);
     let time = float64::to_bits(q.time);
     let values = [
-        q.length,
-        q.kind,
-        q.job,
-        q.revision,
-        q.revolutions,
-        q.way,
-        q.spare,
+        q.length as u64,
+        q.kind as u64,
+        q.job as u64,
+        q.revision as u64,
+        q.revolutions as u64,
+        q.way as u64,
+        q.spare as u64,
         a.x,
         a.y,
         a.z,

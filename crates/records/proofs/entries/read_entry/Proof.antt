@@ -1,9 +1,10 @@
+-- `entries::read_entry` meets its contract: the values that the table of widths gives are the fields, each of its width.
 use mir.Facts.{toZ-ofZ}
 use mir.Syntax.{w64}
 use mir.Val.{SFits}
--- `entries::read_entry` meets its contract: the values that the table of widths gives are the fields.
 use Rattle.records.specs.Records.{entryOf}
 use Rattle.records.specs.Tables.{narrow, decode}
+use Rattle.records.proofs.Numbers.{number-lt}
 use borrow.Author.Needs.{needs}
 use Rattle.records.proofs.entries.read_entry.Statement.{statement}
 use Rattle.records.proofs.entries.read_entry.Tie as tie
@@ -45,8 +46,16 @@ vector-of-requires-2 c κs = search needs
 array-read-t10 : tie.Need-array-read-t10
 array-read-t10 c = search needs
 
+cast-t27 : tie.Need-cast-t27
+unfolding decode
+cast-t27 c = rw (c .before .before .before .numbers .ensures) (record { fits = number-lt (c .before .before .before .before .before .args .s .now) (c .before .before .before .before .shared-slice-known .given) 4 8 })
+
 array-read-t15 : tie.Need-array-read-t15
 array-read-t15 c = search needs
+
+cast-t30 : tie.Need-cast-t30
+unfolding decode
+cast-t30 c = rw (c .before .before .before .numbers .ensures) (record { fits = number-lt (c .before .before .before .before .before .args .s .now) (c .before .before .before .before .shared-slice-known .given) 4 12 })
 
 returns : tie.Need-returns
 unfolding entryOf decode
@@ -70,5 +79,7 @@ read-entry-spec =
     array-read-vector-of-6
     vector-of-requires-2
     array-read-t10
+    cast-t27
     array-read-t15
+    cast-t30
     returns)

@@ -13,9 +13,24 @@ use Rattle.records.proofs.heads.write_head.Tie as tie
 returns : tie.Need-returns
 returns c = no-room (c .before .before .args .out .now) _ 16 (head-length (c .before .before .args .h)) (omega (arith, c .if1 .taken))
 
+cast-t6 : tie.Need-cast-t6
+cast-t6 c = search needs
+
+cast-t7 : tie.Need-cast-t7
+cast-t7 c = search needs
+
+cast-t8 : tie.Need-cast-t8
+cast-t8 c = search needs
+
+cast-t9 : tie.Need-cast-t9
+cast-t9 c = search needs
+
+cast-t10 : tie.Need-cast-t10
+cast-t10 c = search needs
+
 put-numbers-requires : tie.Need-put-numbers-requires
 unfolding narrow total
-put-numbers-requires c κs = (tt, omega (arith, c .before .if1 .left))
+put-numbers-requires c κs = (tt, omega (arith, c .before .before .before .before .before .before .if1 .left))
 
 same-length : tie.Need-same-length
 same-length c = search needs
@@ -23,8 +38,19 @@ same-length c = search needs
 returns-2 : tie.Need-returns-2
 unfolding headBytes encode headFields packed bytesOf
 returns-2 c =
-    let s = c .before .before .before .before .before .before in
-    stored (s .args .out .now) _ (headBytes (s .args .h)) 16 (head-length (s .args .h)) (omega (arith, c .before .before .before .before .if1 .left)) (c .before .before .put-numbers .ensures)
+    let s = c .before .before .before .before .before .before .before .before .before .before .before in
+    stored (s .args .out .now) _ (headBytes (s .args .h)) 16 (head-length (s .args .h)) (omega (arith, c .before .before .before .before .before .before .before .before .before .if1 .left)) (c .before .before .put-numbers .ensures)
 
 pub write-head-spec : {M : Type 1} → statement M
-write-head-spec = tie.close (tie.spec returns put-numbers-requires same-length returns-2)
+write-head-spec =
+    tie.close
+    (tie.spec
+    returns
+    cast-t6
+    cast-t7
+    cast-t8
+    cast-t9
+    cast-t10
+    put-numbers-requires
+    same-length
+    returns-2)

@@ -1,96 +1,100 @@
+-- `questions::read_question` meets its contract: the values that the table of widths gives are the fields, each of its width.
 use Rattle.records.specs.Records.{questionOf}
 use Rattle.records.specs.Tables.{narrow, decode}
+use Rattle.records.proofs.Numbers.{number-lt}
 use borrow.Author.Needs.{needs}
 use Rattle.records.proofs.questions.read_question.Statement.{statement}
 use Rattle.records.proofs.questions.read_question.Tie as tie
-use Rattle.records.proofs.questions.read_question.Reads as reads
-use Rattle.records.proofs.questions.read_question.Lts as lts
-use Rattle.float64.proofs.from_bits.Reads as from-bits-reads
-use Rattle.records.proofs.fields.numbers.Reads as numbers-reads
-use Rattle.records.proofs.words.vector_of.Reads as vector-of-reads
 
--- src/questions.rt:41:13
 numbers-requires : tie.Need-numbers-requires
 unfolding narrow
 numbers-requires c κs = tt
 
--- src/questions.rt:42:24
 array-read-vector-of : tie.Need-array-read-vector-of
 array-read-vector-of c = search needs
 
--- src/questions.rt:42:30
 array-read-vector-of-2 : tie.Need-array-read-vector-of-2
 array-read-vector-of-2 c = search needs
 
--- src/questions.rt:42:36
 array-read-vector-of-3 : tie.Need-array-read-vector-of-3
 array-read-vector-of-3 c = search needs
 
--- src/questions.rt:42:9
 vector-of-requires : tie.Need-vector-of-requires
 vector-of-requires c κs = search needs
 
--- src/questions.rt:43:24
 array-read-vector-of-4 : tie.Need-array-read-vector-of-4
 array-read-vector-of-4 c = search needs
 
--- src/questions.rt:43:31
 array-read-vector-of-5 : tie.Need-array-read-vector-of-5
 array-read-vector-of-5 c = search needs
 
--- src/questions.rt:43:38
 array-read-vector-of-6 : tie.Need-array-read-vector-of-6
 array-read-vector-of-6 c = search needs
 
--- src/questions.rt:43:9
 vector-of-requires-2 : tie.Need-vector-of-requires-2
 vector-of-requires-2 c κs = search needs
 
--- src/questions.rt:45:17
 array-read-t9 : tie.Need-array-read-t9
 array-read-t9 c = search needs
 
--- src/questions.rt:46:15
+cast-t24 : tie.Need-cast-t24
+unfolding decode
+cast-t24 c = rw (c .before .before .numbers .ensures) (record { fits = number-lt (c .before .before .before .before .args .s .now) (c .before .before .before .shared-slice-known .given) 4 0 })
+
 array-read-t12 : tie.Need-array-read-t12
 array-read-t12 c = search needs
 
--- src/questions.rt:47:14
+cast-t27 : tie.Need-cast-t27
+unfolding decode
+cast-t27 c = rw (c .before .before .numbers .ensures) (record { fits = number-lt (c .before .before .before .before .args .s .now) (c .before .before .before .shared-slice-known .given) 2 4 })
+
 array-read-t15 : tie.Need-array-read-t15
 array-read-t15 c = search needs
 
--- src/questions.rt:48:19
-array-read-t30 : tie.Need-array-read-t30
-array-read-t30 c = search needs
+cast-t30 : tie.Need-cast-t30
+unfolding decode
+cast-t30 c = rw (c .before .before .numbers .ensures) (record { fits = number-lt (c .before .before .before .before .args .s .now) (c .before .before .before .shared-slice-known .given) 4 6 })
 
--- src/questions.rt:49:22
 array-read-t33 : tie.Need-array-read-t33
 array-read-t33 c = search needs
 
--- src/questions.rt:50:14
-array-read-t36 : tie.Need-array-read-t36
-array-read-t36 c = search needs
+cast-t34 : tie.Need-cast-t34
+unfolding decode
+cast-t34 c = rw (c .before .before .numbers .ensures) (record { fits = number-lt (c .before .before .before .before .args .s .now) (c .before .before .before .shared-slice-known .given) 4 10 })
 
--- src/questions.rt:51:16
-array-read-t39 : tie.Need-array-read-t39
-array-read-t39 c = search needs
+array-read-t37 : tie.Need-array-read-t37
+array-read-t37 c = search needs
 
--- src/questions.rt:54:32
+cast-t38 : tie.Need-cast-t38
+unfolding decode
+cast-t38 c = rw (c .before .before .numbers .ensures) (record { fits = number-lt (c .before .before .before .before .args .s .now) (c .before .before .before .shared-slice-known .given) 2 14 })
+
+array-read-t41 : tie.Need-array-read-t41
+array-read-t41 c = search needs
+
+cast-t42 : tie.Need-cast-t42
+unfolding decode
+cast-t42 c = rw (c .before .before .numbers .ensures) (record { fits = number-lt (c .before .before .before .before .args .s .now) (c .before .before .before .shared-slice-known .given) 1 16 })
+
+array-read-t45 : tie.Need-array-read-t45
+array-read-t45 c = search needs
+
+cast-t46 : tie.Need-cast-t46
+unfolding decode
+cast-t46 c = rw (c .before .before .numbers .ensures) (record { fits = number-lt (c .before .before .before .before .args .s .now) (c .before .before .before .shared-slice-known .given) 1 17 })
+
 array-read-from-bits : tie.Need-array-read-from-bits
 array-read-from-bits c = search needs
 
--- src/questions.rt:54:13
 from-bits-requires : tie.Need-from-bits-requires
 from-bits-requires c κs = search needs
 
--- src/questions.rt:55:34
 array-read-from-bits-2 : tie.Need-array-read-from-bits-2
 array-read-from-bits-2 c = search needs
 
--- src/questions.rt:55:15
 from-bits-requires-2 : tie.Need-from-bits-requires-2
 from-bits-requires-2 c κs = search needs
 
--- src/questions.rt:38:1
 returns : tie.Need-returns
 unfolding questionOf decode
 returns c =
@@ -111,12 +115,19 @@ read-question-spec =
     array-read-vector-of-6
     vector-of-requires-2
     array-read-t9
+    cast-t24
     array-read-t12
+    cast-t27
     array-read-t15
-    array-read-t30
+    cast-t30
     array-read-t33
-    array-read-t36
-    array-read-t39
+    cast-t34
+    array-read-t37
+    cast-t38
+    array-read-t41
+    cast-t42
+    array-read-t45
+    cast-t46
     array-read-from-bits
     from-bits-requires
     array-read-from-bits-2

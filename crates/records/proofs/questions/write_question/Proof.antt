@@ -25,9 +25,30 @@ to-bits-requires c κs = search needs
 to-bits-requires-2 : tie.Need-to-bits-requires-2
 to-bits-requires-2 c κs = search needs
 
+cast-t12 : tie.Need-cast-t12
+cast-t12 c = search needs
+
+cast-t13 : tie.Need-cast-t13
+cast-t13 c = search needs
+
+cast-t14 : tie.Need-cast-t14
+cast-t14 c = search needs
+
+cast-t15 : tie.Need-cast-t15
+cast-t15 c = search needs
+
+cast-t16 : tie.Need-cast-t16
+cast-t16 c = search needs
+
+cast-t17 : tie.Need-cast-t17
+cast-t17 c = search needs
+
+cast-t18 : tie.Need-cast-t18
+cast-t18 c = search needs
+
 put-numbers-requires : tie.Need-put-numbers-requires
 unfolding narrow total
-put-numbers-requires c κs = (tt, omega (arith, c .before .before .before .before .before .before .before .if1 .left))
+put-numbers-requires c κs = (tt, omega (arith, c .before .before .before .before .before .before .before .before .before .before .before .before .before .before .if1 .left))
 
 same-length : tie.Need-same-length
 same-length c = search needs
@@ -35,11 +56,12 @@ same-length c = search needs
 returns-2 : tie.Need-returns-2
 unfolding questionBytes encode questionFields packed bytesOf
 returns-2 c =
-    let s = c .before .before .before .before .before .before .before .before .before .before .before .before in
-    let a = c .before .before .before .before .before .before .before .words-of .ensures in
-    let b = c .before .before .before .before .before .before .words-of2 .ensures in
-    stored (s .args .out .now) _ (questionBytes (s .args .q)) 82 (question-length (s .args .q)) (omega (arith, c .before .before .before .before .before .before .before .before .before .before .if1 .left))
-    (simp (a .0, a .1, a .2, b .0, b .1, b .2, c .before .before .before .before .before .to-bits .ensures, c .before .before .before .before .to-bits2 .ensures) at (c .before .before .put-numbers .ensures))
+    let s = c .before .before .before .before .before .before .before .before .before .before .before .before .before .before .before .before .before .before .before in
+    let w = c .before .before .before .before .before .before .before .before .before .before .before .before .before .before in
+    let a = w .words-of .ensures in
+    let b = c .before .before .before .before .before .before .before .before .before .before .before .before .before .words-of2 .ensures in
+    stored (s .args .out .now) _ (questionBytes (s .args .q)) 82 (question-length (s .args .q)) (omega (arith, c .before .before .before .before .before .before .before .before .before .before .before .before .before .before .before .before .before .if1 .left))
+    (simp (a .0, a .1, a .2, b .0, b .1, b .2, c .before .before .before .before .before .before .before .before .before .before .before .before .to-bits .ensures, c .before .before .before .before .before .before .before .before .before .before .before .to-bits2 .ensures) at (c .before .before .put-numbers .ensures))
 
 pub write-question-spec : {M : Type 1} → statement M
 write-question-spec =
@@ -50,6 +72,13 @@ write-question-spec =
     words-of-requires-2
     to-bits-requires
     to-bits-requires-2
+    cast-t12
+    cast-t13
+    cast-t14
+    cast-t15
+    cast-t16
+    cast-t17
+    cast-t18
     put-numbers-requires
     same-length
     returns-2)

@@ -1,0 +1,2 @@
+pub mod Table
+mod ClosedCases
