@@ -1,0 +1,119 @@
+// Reads frames of 124 bytes, each with a question, and writes a line for each: the number of its
+// refusal, or 0 and the problem's 22 words. What the independent program makes of the same frames
+// is the expected output.
+ghost use Prim.Native.Nat.{_<_, _≤_};
+use entrance::Judged;
+use entrance::Problem;
+use float64::Vector;
+use geometry::Frame;
+use geometry::Triangle;
+use libc::STDIN_FILENO;
+use libc::STDOUT_FILENO;
+
+// The bytes of a frame: the question's size and the answer buffer's, two each, and 120 for the
+// question.
+const FRAME_SIZE: usize = 124;
+
+fn print_word(word: u64) {
+    io::write_all(STDOUT_FILENO, b" ");
+    io::print_hex(STDOUT_FILENO, word, 16);
+}
+
+fn print_float(x: f64) {
+    print_word(float64::to_bits(x));
+}
+
+fn print_vector(v: Vector) {
+    print_float(v.x);
+    print_float(v.y);
+    print_float(v.z);
+}
+
+fn print_triangle(t: Triangle) {
+    print_float(t.lambda);
+    print_float(t.semiperimeter);
+    print_float(t.chord);
+    print_float(t.rho);
+    print_float(t.sigma);
+}
+
+fn print_directions(f: Frame) {
+    let normal = f.normal;
+    let unit1 = f.unit1;
+    let unit2 = f.unit2;
+    print_vector(normal);
+    print_vector(unit1);
+    print_vector(unit2);
+}
+
+fn print_problem(p: Problem) {
+    let triangle = p.triangle;
+    let frame = p.frame;
+    print_word(p.job as u64);
+    print_word(p.revision as u64);
+    print_word(p.revolutions as u64);
+    print_word(if p.long_way { 1 } else { 0 });
+    print_float(p.mu);
+    print_triangle(triangle);
+    print_float(p.radius1);
+    print_float(p.radius2);
+    print_directions(frame);
+    print_float(p.wanted);
+}
+
+// Writes the line, and answers whether its end was taken.
+fn print_judged(judged: Judged) -> bool {
+    match judged {
+        Judged::Refused(number) => {
+            io::print_decimal(STDOUT_FILENO, number as u64);
+        }
+        Judged::Accepted(problem) => {
+            io::write_all(STDOUT_FILENO, b"0");
+            print_problem(problem);
+        }
+    }
+    io::write_all(STDOUT_FILENO, b"\n")
+}
+
+// The number that two bytes stand for, the lower one first.
+fn number(low: u8, high: u8) -> usize
+    ensures { λ r. ⌜ r < 65536 ⌝ }
+{
+    low as usize + high as usize * 256
+}
+
+// Where a question of some size ends in its frame. A size above 120 counts as 120.
+fn question_end(size: usize) -> usize
+    ensures { λ r. ⌜ (4 ≤ r) × (r ≤ 124) ⌝ }
+{
+    if size < FRAME_SIZE - 4 {
+        4 + size
+    } else {
+        FRAME_SIZE
+    }
+}
+
+fn judge_frame(frame: &[u8; FRAME_SIZE]) -> Judged {
+    let end = question_end(number(frame[0], frame[1]));
+    let room = number(frame[2], frame[3]);
+    let bytes = &frame[..];
+    entrance::judge(&bytes[4..end], room)
+}
+
+// Takes one frame, and answers whether it was whole and its line was written.
+fn answer_one() -> bool {
+    let mut frame = [0u8; FRAME_SIZE];
+    if io::read_full(STDIN_FILENO, &mut frame) < FRAME_SIZE {
+        return false;
+    }
+    print_judged(judge_frame(&frame))
+}
+
+// A proved loop has to end, and nothing says that the input does: the count is one that no input
+// reaches.
+fn main() {
+    let mut turns = u64::MAX;
+    while turns > 0 && answer_one() {
+        turns -= 1;
+    }
+}
