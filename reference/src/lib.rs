@@ -1,9 +1,15 @@
 //! The independent second program. It is written from the scope document alone and shares no code
 //! with the proved crates: where the two agree bit for bit, they agree for different reasons.
 
+pub mod angle;
 pub mod entrance;
+pub mod fixed;
+pub mod places;
+pub mod precise;
+pub mod precision;
 pub mod questions;
 pub mod random;
 pub mod root;
+pub mod time;
 pub mod triangle;
 pub mod wire;

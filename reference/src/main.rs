@@ -1,14 +1,19 @@
 //! The commands of the independent second program. Each writes vectors to standard output.
 
-use reference::{entrance, questions, root};
+use reference::{entrance, places, precision, questions, root};
 use std::io::{BufWriter, Write};
 use std::process::ExitCode;
 
-const USAGE: &str = "usage: reference root | entrance questions | entrance verdicts
+const USAGE: &str =
+    "usage: reference root | entrance questions | entrance verdicts | time places | time times |
+       time precision
   root                 a line for each operand: its bits and the bits of its root, as hexadecimal digits
   entrance questions   a frame for each case: size and room, u16 little-endian, then the question's
                        bytes with zeros up to 120
-  entrance verdicts    a line for each case: the number of its refusal, or 0 and 22 hexadecimal words";
+  entrance verdicts    a line for each case: the number of its refusal, or 0 and 22 hexadecimal words
+  time places          a frame for each place: lambda's bits u64, k i64, M u16, little-endian
+  time times           a line for each place: the bits of its time as hexadecimal digits, or void
+  time precision       the largest relative errors of the times over a grid of places";
 
 fn main() -> ExitCode {
     let words: Vec<String> = std::env::args().skip(1).collect();
@@ -17,6 +22,9 @@ fn main() -> ExitCode {
         ["root"] => write_roots(&mut out),
         ["entrance", "questions"] => write_questions(&mut out),
         ["entrance", "verdicts"] => write_verdicts(&mut out),
+        ["time", "places"] => write_places(&mut out),
+        ["time", "times"] => write_times(&mut out),
+        ["time", "precision"] => out.write_all(precision::report().as_bytes()),
         _ => {
             eprintln!("{USAGE}");
             return ExitCode::from(2);
@@ -47,4 +55,12 @@ fn write_verdicts(out: &mut impl Write) -> std::io::Result<()> {
         writeln!(out, "{}", entrance::line(entrance::judge(&case.bytes, case.room.into())))?;
     }
     Ok(())
+}
+
+fn write_places(out: &mut impl Write) -> std::io::Result<()> {
+    places::places().iter().try_for_each(|place| out.write_all(&place.frame()))
+}
+
+fn write_times(out: &mut impl Write) -> std::io::Result<()> {
+    places::places().iter().try_for_each(|place| writeln!(out, "{}", place.line()))
 }

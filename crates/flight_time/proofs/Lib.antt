@@ -1,0 +1,3 @@
+mod Ratios
+pub mod Laws
+mod ClosedCases

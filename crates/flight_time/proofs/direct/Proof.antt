@@ -1,0 +1,12 @@
+-- `direct` meets its contract: the code's operations are the definition's.
+use mathlib.Core.Path.{refl}
+use Rattle.flight_time.specs.Steps.{directOf}
+use Rattle.flight_time.proofs.direct.Statement.{statement}
+use Rattle.flight_time.proofs.direct.Tie as tie
+
+returns : tie.Need-returns
+unfolding directOf
+returns c = refl
+
+pub direct-spec : {M : Type 1} → statement M
+direct-spec = tie.close (tie.spec returns)

@@ -1,0 +1,12 @@
+-- `u_at` meets its contract: the code's operations are the definition's.
+use mathlib.Core.Path.{refl}
+use Rattle.flight_time.specs.Steps.{uOf}
+use Rattle.flight_time.proofs.u_at.Statement.{statement}
+use Rattle.flight_time.proofs.u_at.Tie as tie
+
+returns : tie.Need-returns
+unfolding uOf
+returns c = refl
+
+pub u-at-spec : {M : Type 1} → statement M
+u-at-spec = tie.close (tie.spec returns)

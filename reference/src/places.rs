@@ -1,0 +1,58 @@
+//! The places on which the time is compared, in a fixed order.
+
+mod anywhere;
+mod ends;
+mod lambdas;
+mod near;
+mod stations;
+
+use crate::random::Random;
+use crate::time::time_at;
+
+pub const FRAME: usize = 18;
+
+/// What is handed to the time: the bits of lambda, which may be any pattern, k and M.
+#[derive(Clone, Copy, Debug, PartialEq, Eq)]
+pub struct Place {
+    pub lambda: u64,
+    pub k: i64,
+    pub m: u16,
+}
+
+impl Place {
+    fn new(lambda: f64, k: i64, m: u16) -> Place {
+        Place { lambda: lambda.to_bits(), k, m }
+    }
+
+    /// Lambda's bits, k and M, each little-endian.
+    pub fn frame(&self) -> [u8; FRAME] {
+        let mut frame = [0; FRAME];
+        frame[..8].copy_from_slice(&self.lambda.to_le_bytes());
+        frame[8..16].copy_from_slice(&self.k.to_le_bytes());
+        frame[16..].copy_from_slice(&self.m.to_le_bytes());
+        frame
+    }
+
+    /// The bits of the place's time as sixteen hexadecimal digits, or `void`.
+    pub fn line(&self) -> String {
+        match time_at(f64::from_bits(self.lambda), self.k, self.m) {
+            Some(t) => format!("{:016x}", t.to_bits()),
+            None => "void".into(),
+        }
+    }
+}
+
+/// Every place of the comparison.
+pub fn places() -> Vec<Place> {
+    let mut r = Random::new(9);
+    let mut all = stations::places();
+    all.extend(ends::places());
+    all.extend(lambdas::places(&mut r));
+    all.extend(near::places(&mut r));
+    all.extend(anywhere::inside(&mut r));
+    all.extend(anywhere::outside(&mut r));
+    all
+}
+
+#[cfg(test)]
+mod tests;
