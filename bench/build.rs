@@ -1,8 +1,10 @@
-//! Links the proved library that `rt staticlib` wrote.
+//! Links the proved libraries that `rt staticlib` wrote.
 
 fn main() {
     let here = std::env::var("CARGO_MANIFEST_DIR").expect("cargo sets it");
     println!("cargo:rustc-link-search=native={here}/../target/staticlib");
-    println!("cargo:rustc-link-lib=static=root_bits");
-    println!("cargo:rerun-if-changed={here}/../target/staticlib/libroot_bits.a");
+    for name in ["root_bits", "time_bits"] {
+        println!("cargo:rustc-link-lib=static={name}");
+        println!("cargo:rerun-if-changed={here}/../target/staticlib/lib{name}.a");
+    }
 }

@@ -3,18 +3,27 @@
 mod proved;
 mod timing;
 
+use reference::places::{places, Place};
 use reference::random::Random;
-use reference::root;
+use reference::{root, time};
 use std::process::ExitCode;
 
 const USAGE: &str = "usage: bench time|compare
-  time      nanoseconds for each call of the proved code and of the hardware, and the ratio
-  compare   the proved code against the hardware on two million operands of no pattern";
+  time      nanoseconds for each call of the proved code and of the reference, and the ratio
+  compare   the proved code against the reference on two million roots and one million places of no pattern";
+
+/// What stands for a void place over the C interface.
+const VOID: u64 = u64::MAX;
 
 fn main() -> ExitCode {
     match std::env::args().skip(1).collect::<Vec<_>>().join(" ").as_str() {
-        "time" => time_roots(),
-        "compare" => compare_roots(2_000_000),
+        "time" => {
+            let root = time_roots();
+            time_places(root);
+            ExitCode::SUCCESS
+        }
+        "compare" if compare_roots(2_000_000) && compare_places(1_000_000) => ExitCode::SUCCESS,
+        "compare" => ExitCode::FAILURE,
         _ => {
             eprintln!("{USAGE}");
             ExitCode::from(2)
@@ -22,29 +31,64 @@ fn main() -> ExitCode {
     }
 }
 
-fn time_roots() -> ExitCode {
+fn report(what: &str, count: usize, [ours, theirs]: [f64; 2], other: &str) {
+    println!("{what}, {count} operands, the best of {} rounds:", timing::ROUNDS);
+    println!("  proved     {ours:8.1} ns");
+    println!("  {other:<10} {theirs:8.1} ns");
+    println!("  ratio      {:8.1}", ours / theirs);
+}
+
+/// Answers the nanoseconds of a proved root.
+fn time_roots() -> f64 {
     let positive: Vec<u64> =
         root::operands().into_iter().filter(|&b| b != 0 && root::root_bits(b) != root::REFUSED).collect();
     let hardware = |b: u64| f64::from_bits(b).sqrt().to_bits();
-    let [ours, theirs] = timing::nanoseconds(&positive, [&proved::root_bits, &hardware]);
-    println!("square root, {} operands, the best of {} rounds:", positive.len(), timing::ROUNDS);
-    println!("  proved    {ours:8.1} ns");
-    println!("  hardware  {theirs:8.1} ns");
-    println!("  ratio     {:8.1}", ours / theirs);
-    ExitCode::SUCCESS
+    let times = timing::nanoseconds(&positive, [&proved::root_bits, &hardware]);
+    report("square root", positive.len(), times, "hardware");
+    times[0]
+}
+
+fn reference_bits(p: Place) -> u64 {
+    time::time_at(f64::from_bits(p.lambda), p.k, p.m).map_or(VOID, f64::to_bits)
+}
+
+/// A place with a time takes four roots, and one more where there are whole revolutions.
+fn time_places(root: f64) {
+    let timed: Vec<Place> = places().into_iter().filter(|&p| reference_bits(p) != VOID).collect();
+    let roots = timed.iter().map(|p| 4 + u64::from(p.m > 0)).sum::<u64>() as f64 / timed.len() as f64;
+    let times = timing::nanoseconds(&timed, [&|p: Place| proved::time_bits(p.lambda, p.k, p.m), &reference_bits]);
+    report("time at a place", timed.len(), times, "reference");
+    println!("  the roots  {:8.0} % of the proved time ({roots:.1} a place)", 100.0 * roots * root / times[0]);
 }
 
 /// Half of the operands are positive, so that half of the answers are numbers at the least.
-fn compare_roots(count: u64) -> ExitCode {
+fn compare_roots(count: u64) -> bool {
     let mut random = Random::new(7);
     for i in 0..count {
         let b = random.word() >> (i % 2);
         let (ours, theirs) = (proved::root_bits(b), root::root_bits(b));
         if ours != theirs {
             println!("root of {b:016x}: proved {ours:016x}, hardware {theirs:016x}");
-            return ExitCode::FAILURE;
+            return false;
         }
     }
     println!("square root: {count} operands, every bit equal");
-    ExitCode::SUCCESS
+    true
+}
+
+/// Lambdas in (-1, 1) and places over the whole range and a little beyond.
+fn compare_places(count: u64) -> bool {
+    let mut random = Random::new(11);
+    for _ in 0..count {
+        let lambda = (2.0 * random.fraction() - 1.0).to_bits();
+        let k = random.below(22 << 30) as i64 - (5 << 30);
+        let p = Place { lambda, k, m: random.below(18) as u16 };
+        let (ours, theirs) = (proved::time_bits(p.lambda, p.k, p.m), reference_bits(p));
+        if ours != theirs {
+            println!("{p:?}: proved {ours:016x}, reference {theirs:016x}");
+            return false;
+        }
+    }
+    println!("time at a place: {count} places, every bit equal");
+    true
 }

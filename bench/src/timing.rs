@@ -6,12 +6,12 @@ use std::time::Instant;
 pub const ROUNDS: usize = 25;
 
 /// The least time of a call in nanoseconds, over some rounds, for each function.
-pub fn nanoseconds<const N: usize>(operands: &[u64], functions: [&dyn Fn(u64) -> u64; N]) -> [f64; N] {
+pub fn nanoseconds<T: Copy, const N: usize>(operands: &[T], functions: [&dyn Fn(T) -> u64; N]) -> [f64; N] {
     let mut best = [f64::INFINITY; N];
     for _ in 0..ROUNDS {
         for (f, least) in functions.iter().zip(&mut best) {
             let start = Instant::now();
-            let sum = operands.iter().fold(0u64, |sum, &b| sum.wrapping_add(f(black_box(b))));
+            let sum = operands.iter().fold(0u64, |sum, &x| sum.wrapping_add(f(black_box(x))));
             let each = start.elapsed().as_nanos() as f64 / operands.len() as f64;
             black_box(sum);
             *least = least.min(each);

@@ -1,0 +1,30 @@
+// The time at a place from 64 bits to 64 bits, for programs in other languages and for comparisons.
+ghost use mathlib.Core.Path.{_≡_};
+ghost use Rattle.time_bits.specs.TimeBits.{withLambda, timeBitsOf};
+use flight_time::Place;
+use geometry::Triangle;
+
+// A triangle of which only lambda is given: the time asks no more of it.
+fn with_lambda(b: u64) -> Triangle
+    ensures { λ r. ⌜ r ≡ withLambda b ⌝ }
+{
+    Triangle {
+        lambda: float64::from_bits(b),
+        semiperimeter: 0.0,
+        chord: 0.0,
+        rho: 0.0,
+        sigma: 0.0,
+    }
+}
+
+// The bits of the time at the place k with m whole revolutions, for the lambda with the bits b, or
+// all ones where the place is void.
+#[no_mangle]
+pub extern "C" fn lambert_time_bits(b: u64, k: i64, m: u16) -> u64
+    ensures { λ r. ⌜ r ≡ timeBitsOf b k m ⌝ }
+{
+    match flight_time::time_at(with_lambda(b), k, m) {
+        Place::Timed(t) => float64::to_bits(t),
+        Place::Void => 0xFFFF_FFFF_FFFF_FFFF,
+    }
+}
