@@ -4,7 +4,7 @@ use mathlib.Core.List.{List, [], _∷_, map}
 use Prim.Native.Nat.{ℕ, _+_, _-_, _^_}
 use lib.IntN.{ℤ, pos, negℤ}
 use lib.Ieee.{add, sub, mul, div, neg, lt, eq, ofBits, ofInt}
-use Rattle.float64.specs.Notation.{bits}
+use Rattle.float64.specs.Notation.{_⊖_, _⊗_, bits, 0F, 1F}
 use Rattle.float64.specs.Value.{magnitudeOf, finiteOf}
 use Rattle.float64.specs.Root.{rootOf}
 use Rattle.geometry.specs.declared.Triangle.{Triangle}
@@ -22,9 +22,9 @@ pub record Row : Type 0 where
 pub row : ℕ → ℤ → ℕ → Place → Row
 row L k m p = record { L = L; k = k; m = m; place = p }
 
--- only L of a triangle counts here
+-- a triangle with the given L: c/s is 1 − L²; ρ and σ don't count here
 pub withLambda : ℕ → Triangle
-withLambda L = record { lambda = bits L; semiperimeter = bits 0; chord = bits 0; rho = bits 0; sigma = bits 0 }
+withLambda L = record { lambda = bits L; semiperimeter = 1F; chord = 1F ⊖ bits L ⊗ bits L; rho = 0F; sigma = 1F }
 
 -- the ends of the ranges: -2^32 + 2^20 and the k below it, and so on
 abbrev pub low : ℤ
@@ -33,7 +33,8 @@ low = negℤ (pos (2 ^ 32 - 2 ^ 20))
 abbrev pub too-low : ℤ
 too-low = negℤ (pos (2 ^ 32 - 2 ^ 20 + 1))
 
--- exact: 2/3 at L = 0, x = 1, and 0.75 at L = -1/2; near: π/2 and L = 0.6 at x = 0, and M = 1; void by L, by M and by k, and both sides of each end; a NaN and -0 as L
+-- exact: 2/3 at L = 0, x = 1, and 0.75 at L = -1/2; near: π/2 (also at L = -0) and L = 0.6 at x = 0, and M = 1; two times whose last digits tell sixteen terms from fifteen and from seventeen;
+-- void by a refused root, by a zero divisor, by k with M = 1, by L (a NaN too), by M, and by k just past each end
 pub rows : List Row
 rows =
     row 0 (pos (2 ^ 32)) 0 (Timed (bits 0x3FE5_5555_5555_5555))
@@ -42,6 +43,10 @@ rows =
     ∷ row 0x8000_0000_0000_0000 (pos 0) 0 (Timed (bits 0x3FF9_21FB_5444_2D18))
     ∷ row 0x3FE3_3333_3333_3333 (pos 0) 0 (Timed (bits 0x3FF6_8447_FD92_2556))
     ∷ row 0 (pos 0) 1 (Timed (bits 0x4012_D97C_7F33_21D2))
+    ∷ row 0xBFEF_448B_0B8A_EB45 (pos 17099233261) 0 (Timed (bits 0x3FDC_FC14_B3AB_7880))
+    ∷ row 0xBFEE_4487_E8E5_3368 (pos 17163421851) 0 (Timed (bits 0x3FDB_EDA0_859A_6DE0))
+    ∷ row 0xBFEF_FFFF_ED68_3896 low 0 Void
+    ∷ row 0xBFEF_FFFF_FFCC_9337 low 0 Void
     ∷ row 0 (pos (2 ^ 32)) 1 Void
     ∷ row 0x3FF0_0000_0000_0000 (pos 0) 0 Void
     ∷ row 0xBFF0_0000_0000_0000 (pos 0) 0 Void

@@ -1,5 +1,5 @@
 -- The steps of the time at one place (01, Time at one place), each group on its own. Definitions only; Time.antt puts them together.
--- A step that can be void gives a `Stage` or a `Halved`, and the next step takes what it gives only where it is not void.
+-- A group of steps that can be void gives a `Stage` or a `Halved`, and the next one takes what it gives only where it is not void.
 use Prim.Native.Nat.{ℕ, zero, suc, _+_, _-_, _*_, _^_}
 use mathlib.Core.Bool.{Bool, true, false, not, _||_, _&&_, cond}
 use lib.Dec.{leb, ltb, eqb}
@@ -46,9 +46,13 @@ highest = pos (2 ^ 34)
 abbrev pub highestRevolving : ℤ
 highestRevolving = pos (2 ^ 32 - 2 ^ 20)
 
+-- the most whole revolutions
+abbrev pub mostRevolutions : ℕ
+mostRevolutions = 16
+
 unfoldable pub outsideRange : Float → ℤ → ℕ → Bool
 outsideRange L k m =
-    not (magnitudeOf L ≺ 1F) || (ltb 16 m || (ltZ k lowest || (ltZ highest k || (leb 1 m && ltZ highestRevolving k))))
+    not (magnitudeOf L ≺ 1F) || (ltb mostRevolutions m || (ltZ k lowest || (ltZ highest k || (leb 1 m && ltZ highestRevolving k))))
 
 -- x = k / 2^32
 unfoldable pub xOf : ℤ → Float
@@ -64,13 +68,14 @@ yOf L u = rootOf (1F ⊖ (L ⊗ L) ⊗ u)
 unfoldable pub etaOf : Float → Float → Float → Float
 etaOf L x y = y ⊖ L ⊗ x
 
--- ---- 3. C1, then for n = 1, 2, 3: w_n = √C_n, and the next C. Of the S's only S4 is used, in step 4
+-- ---- 3. C1, then for n = 1, 2, 3: w_n = √C_n, and the next C. C4 and the S's but S4 are used nowhere; S4 stands in step 4
 unfoldable pub c1Of : Float → Float → Float → Float
 c1Of L x η = ((1F ⊕ L) ⊕ x ⊗ η) ⊘ 2F
 
 unfoldable pub nextC : Float → Float
 nextC w = (1F ⊕ w) ⊘ 2F
 
+-- steps 2 and 3 together, with what later steps use
 unfoldable pub halvedOf : Float → Float → Float → Halved
 halvedOf L x u =
     halvedBy (yOf L u) (λ y.
@@ -91,8 +96,12 @@ unfoldable pub seriesFrom : Float → ℕ → Float → Float
 seriesFrom z zero g = g
 seriesFrom z (suc n) g = seriesFrom z n (1F ⊕ (ratioOf n ⊗ z) ⊗ g)
 
+-- the number of terms
+abbrev pub terms : ℕ
+terms = 16
+
 unfoldable pub seriesOf : Float → Float
-seriesOf z = seriesFrom z 16 1F
+seriesOf z = seriesFrom z terms 1F
 
 unfoldable pub s4Of : Float → Float
 s4Of w3 = (1F ⊖ w3) ⊘ 2F

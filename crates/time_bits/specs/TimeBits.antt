@@ -1,7 +1,7 @@
 -- The time at a place from 64 bits to 64 bits. Definitions only.
 use Prim.Native.Nat.{ℕ}
 use lib.IntN.{ℤ}
-use Rattle.float64.specs.Notation.{bits, bitsOf, 0F}
+use Rattle.float64.specs.Notation.{_⊖_, _⊗_, bits, bitsOf, 0F, 1F}
 use Rattle.geometry.specs.declared.Triangle.{Triangle}
 use Rattle.flight_time.specs.Time.{timeOf}
 use Rattle.flight_time.specs.declared.Place.{Place}
@@ -12,9 +12,9 @@ unfoldable pub placeBits : Place → ℕ
 placeBits (Timed t) = bitsOf t
 placeBits Void = 0xFFFF_FFFF_FFFF_FFFF
 
--- a triangle of which only L is given: the time asks no more of it
+-- a triangle with the given L: c/s is 1 − L², and the time asks nothing of ρ and σ
 unfoldable pub withLambda : ℕ → Triangle
-withLambda b = record { lambda = bits b; semiperimeter = 0F; chord = 0F; rho = 0F; sigma = 0F }
+withLambda b = record { lambda = bits b; semiperimeter = 1F; chord = 1F ⊖ bits b ⊗ bits b; rho = 0F; sigma = 1F }
 
 unfoldable pub timeBitsOf : ℕ → ℤ → ℕ → ℕ
 timeBitsOf b k m = placeBits (timeOf (withLambda b) k m)

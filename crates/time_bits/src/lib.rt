@@ -4,16 +4,18 @@ ghost use Rattle.time_bits.specs.TimeBits.{withLambda, timeBitsOf};
 use flight_time::Place;
 use geometry::Triangle;
 
-// A triangle of which only lambda is given: the time asks no more of it.
+// A triangle with the given lambda: the chord is 1 - lambda^2 of the semiperimeter, and the time asks
+// nothing of rho and sigma.
 fn with_lambda(b: u64) -> Triangle
     ensures { λ r. ⌜ r ≡ withLambda b ⌝ }
 {
+    let lambda = float64::from_bits(b);
     Triangle {
-        lambda: float64::from_bits(b),
-        semiperimeter: 0.0,
-        chord: 0.0,
+        lambda,
+        semiperimeter: 1.0,
+        chord: 1.0 - lambda * lambda,
         rho: 0.0,
-        sigma: 0.0,
+        sigma: 1.0,
     }
 }
 

@@ -40,14 +40,16 @@ fn signed(b: u64) -> i64 {
     }
 }
 
-// The time needs no more of a triangle than its lambda.
+// A triangle with the frame's lambda: the chord is 1 - lambda^2 of the semiperimeter, and the time
+// asks nothing of rho and sigma.
 fn place_of(frame: &[u8; 18]) -> Place {
+    let lambda = float64::from_bits(word(frame, 0));
     let triangle = Triangle {
-        lambda: float64::from_bits(word(frame, 0)),
-        semiperimeter: 0.0,
-        chord: 0.0,
+        lambda,
+        semiperimeter: 1.0,
+        chord: 1.0 - lambda * lambda,
         rho: 0.0,
-        sigma: 0.0,
+        sigma: 1.0,
     };
     let m = pair(frame[16], frame[17]);
     flight_time::time_at(triangle, signed(word(frame, 8)), m)
