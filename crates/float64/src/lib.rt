@@ -43,8 +43,8 @@ pub fn square_root(x: f64) -> Root
     }
 }
 
-// The root of the positive f64 with the bit pattern b: 54 binary digits, rounded to 53, below the
-// exponent's field.
+// The root of the positive f64 with the bit pattern b: 54 binary digits, rounded to 53, the last of
+// which counts 2^(k + 484) units of 2^-1074. The leading digit adds one to the exponent's field.
 fn positive_root(b: u64) -> f64
     requires { ⌜ (0 < b) × (b < 0x7FF0_0000_0000_0000) ⌝ }
     ensures { λ r. ⌜ r ≡ rootOfUnits (unitsOfBits b) ⌝ }
