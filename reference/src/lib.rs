@@ -4,6 +4,7 @@
 pub mod angle;
 pub mod entrance;
 pub mod fixed;
+pub mod flights;
 pub mod places;
 pub mod precise;
 pub mod precision;
@@ -12,4 +13,5 @@ pub mod random;
 pub mod root;
 pub mod time;
 pub mod triangle;
+pub mod velocity;
 pub mod wire;

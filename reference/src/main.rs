@@ -1,19 +1,21 @@
 //! The commands of the independent second program. Each writes vectors to standard output.
 
-use reference::{entrance, places, precision, questions, root};
+use reference::{entrance, flights, places, precision, questions, root};
 use std::io::{BufWriter, Write};
 use std::process::ExitCode;
 
 const USAGE: &str =
     "usage: reference root | entrance questions | entrance verdicts | time places | time times |
-       time precision
+       time precision | velocity flights | velocity velocities
   root                 a line for each operand: its bits and the bits of its root, as hexadecimal digits
   entrance questions   a frame for each case: size and room, u16 little-endian, then the question's
                        bytes with zeros up to 120
   entrance verdicts    a line for each case: the number of its refusal, or 0 and 22 hexadecimal words
   time places          a frame for each place: lambda's bits u64, k i64, M u16, little-endian
   time times           a line for each place: the bits of its time as hexadecimal digits, or void
-  time precision       the largest relative errors of the times over a grid of places";
+  time precision       the largest relative errors of the times over a grid of places
+  velocity flights     a frame for each case: the bits of 17 floats u64, k i64, little-endian
+  velocity velocities  a line for each case: the bits of v1 x y z and v2 x y z as hexadecimal digits";
 
 fn main() -> ExitCode {
     let words: Vec<String> = std::env::args().skip(1).collect();
@@ -25,6 +27,8 @@ fn main() -> ExitCode {
         ["time", "places"] => write_places(&mut out),
         ["time", "times"] => write_times(&mut out),
         ["time", "precision"] => out.write_all(precision::report().as_bytes()),
+        ["velocity", "flights"] => write_flights(&mut out),
+        ["velocity", "velocities"] => write_velocities(&mut out),
         _ => {
             eprintln!("{USAGE}");
             return ExitCode::from(2);
@@ -63,4 +67,12 @@ fn write_places(out: &mut impl Write) -> std::io::Result<()> {
 
 fn write_times(out: &mut impl Write) -> std::io::Result<()> {
     places::places().iter().try_for_each(|place| writeln!(out, "{}", place.line()))
+}
+
+fn write_flights(out: &mut impl Write) -> std::io::Result<()> {
+    flights::flights().iter().try_for_each(|case| out.write_all(&case.frame()))
+}
+
+fn write_velocities(out: &mut impl Write) -> std::io::Result<()> {
+    flights::flights().iter().try_for_each(|case| writeln!(out, "{}", case.line()))
 }

@@ -70,7 +70,7 @@ fn enough(r: &mut Random) -> u16 {
 }
 
 /// The document's question: job 7, revision 2, M = 1, short way.
-fn document() -> Question {
+pub(crate) fn document() -> Question {
     Question {
         length: crate::wire::QUESTION_LENGTH,
         kind: crate::wire::QUESTION_KIND,

@@ -1,0 +1,48 @@
+-- `velocities_at` meets its contract: what its calls ensure, put together.
+use mathlib.Core.Path.{_≡_}
+use mir.Facts.{toZ-ofZ}
+use Rattle.flight_time.specs.Steps.{xOf}
+use Rattle.velocity.specs.Velocities.{velocitiesOf}
+use borrow.Author.Needs.{needs}
+use Rattle.velocity.proofs.velocities_at.Statement.{statement}
+use Rattle.velocity.proofs.velocities_at.Tie as tie
+
+-- what `x_at` ensures, of k itself: what the machine reads back from the bits of k is k
+x-is : (c : tie.After-x-at) → c .x-at .result ≡ xOf (c .before .args .k)
+x-is c = rw (toZ-ofZ (c .before .fits .k)) at (c .x-at .ensures)
+
+x-at-requires : tie.Need-x-at-requires
+x-at-requires c κs = search needs
+
+y-or-nan-requires : tie.Need-y-or-nan-requires
+y-or-nan-requires c κs = search needs
+
+gamma-requires : tie.Need-gamma-requires
+gamma-requires c κs = search needs
+
+speeds-at-requires : tie.Need-speeds-at-requires
+speeds-at-requires c κs = search needs
+
+velocity-along-requires : tie.Need-velocity-along-requires
+velocity-along-requires c κs = search needs
+
+velocity-along-requires-2 : tie.Need-velocity-along-requires-2
+velocity-along-requires-2 c κs = search needs
+
+returns : tie.Need-returns
+unfolding velocitiesOf
+returns c =
+    let s = c .before .before .before .before .before in
+    simp (c .velocity-along2 .ensures, c .before .velocity-along .ensures, s .speeds-at .ensures, s .before .gamma .ensures, s .before .before .y-or-nan .ensures, x-is (s .before .before .before))
+
+pub velocities-at-spec : {M : Type 1} → statement M
+velocities-at-spec =
+    tie.close
+    (tie.spec
+    x-at-requires
+    y-or-nan-requires
+    gamma-requires
+    speeds-at-requires
+    velocity-along-requires
+    velocity-along-requires-2
+    returns)

@@ -1,0 +1,18 @@
+-- The chosen end of a bracket (01, Stations, sides, crossings), and whether velocities are finite (01, number 14). Definitions only.
+use mathlib.Core.Bool.{Bool, _&&_}
+use lib.Ieee.{Float}
+use Rattle.float64.specs.Notation.{_⊖_, _≺_}
+use Rattle.float64.specs.Value.{magnitudeOf, finiteOf}
+use Rattle.float64.specs.declared.Vector.{Vector}
+use Rattle.velocity.specs.declared.Velocities.{Velocities}
+
+-- whether the upper end is chosen: it has the smaller |T − T*|; a tie takes the lower
+unfoldable pub upperChosen : Float → Float → Float → Bool
+upperChosen lower upper wanted = magnitudeOf (upper ⊖ wanted) ≺ magnitudeOf (lower ⊖ wanted)
+
+-- a velocity is finite when its three components are
+unfoldable pub vectorFinite : Vector → Bool
+vectorFinite v = finiteOf (v .x) && (finiteOf (v .y) && finiteOf (v .z))
+
+unfoldable pub velocitiesFinite : Velocities → Bool
+velocitiesFinite w = vectorFinite (w .v1) && vectorFinite (w .v2)

@@ -1,0 +1,2 @@
+pub mod Velocities
+pub mod Chosen

@@ -1,0 +1,120 @@
+// Reads frames of 144 bytes, each a flight: 17 floats and the place k. Writes a line for each, the
+// bits of v1 and v2. What the independent program makes of the same frames is the expected output.
+ghost use Prim.Native.Nat.{_≤_, _<_};
+use float64::Vector;
+use geometry::Frame;
+use geometry::Triangle;
+use libc::STDIN_FILENO;
+use libc::STDOUT_FILENO;
+use velocity::Velocities;
+
+fn wide(b: u8) -> u64
+    ensures { λ r. ⌜ r < 256 ⌝ }
+{
+    b as u64
+}
+
+// The number of the eight bytes from `at` on, the lowest first.
+fn word(frame: &[u8; 144], at: usize) -> u64
+    requires { ⌜ at ≤ 136 ⌝ }
+{
+    let mut value = 0u64;
+    let mut left: usize = 8;
+    while 0 < left {
+        left -= 1;
+        value = value % 0x0100_0000_0000_0000 * 256 + wide(frame[at + left]);
+    }
+    value
+}
+
+// A word read as a signed number.
+fn signed(b: u64) -> i64 {
+    if b < 0x8000_0000_0000_0000 {
+        b as i64
+    } else {
+        !((!b) as i64)
+    }
+}
+
+fn number(frame: &[u8; 144], at: usize) -> f64
+    requires { ⌜ at ≤ 136 ⌝ }
+{
+    float64::from_bits(word(frame, at))
+}
+
+fn vector(frame: &[u8; 144], at: usize) -> Vector
+    requires { ⌜ at ≤ 112 ⌝ }
+{
+    Vector {
+        x: number(frame, at),
+        y: number(frame, at + 8),
+        z: number(frame, at + 16),
+    }
+}
+
+fn triangle_of(frame: &[u8; 144]) -> Triangle {
+    Triangle {
+        lambda: number(frame, 8),
+        semiperimeter: number(frame, 16),
+        chord: number(frame, 24),
+        rho: number(frame, 32),
+        sigma: number(frame, 40),
+    }
+}
+
+fn frame_of(frame: &[u8; 144]) -> Frame {
+    let normal = vector(frame, 64);
+    let unit1 = vector(frame, 88);
+    let unit2 = vector(frame, 112);
+    Frame {
+        normal,
+        unit1,
+        unit2,
+    }
+}
+
+fn flown(frame: &[u8; 144]) -> Velocities {
+    let triangle = triangle_of(frame);
+    let directions = frame_of(frame);
+    let mu = number(frame, 0);
+    let radius1 = number(frame, 48);
+    let radius2 = number(frame, 56);
+    let k = signed(word(frame, 136));
+    velocity::velocities_at(mu, triangle, radius1, radius2, directions, k)
+}
+
+fn print_number(x: f64) {
+    io::print_hex(STDOUT_FILENO, float64::to_bits(x), 16);
+}
+
+fn print_vector(v: Vector) {
+    print_number(v.x);
+    io::write_all(STDOUT_FILENO, b" ");
+    print_number(v.y);
+    io::write_all(STDOUT_FILENO, b" ");
+    print_number(v.z);
+}
+
+// Takes one frame, and answers whether it was whole and its line was written.
+fn answer_one() -> bool {
+    let mut frame = [0u8; 144];
+    if io::read_full(STDIN_FILENO, &mut frame) < 144 {
+        return false;
+    }
+    let w = flown(&frame);
+    let v1 = w.v1;
+    let v2 = w.v2;
+    print_vector(v1);
+    io::write_all(STDOUT_FILENO, b" ");
+    print_vector(v2);
+    io::write_all(STDOUT_FILENO, b"\n")
+}
+
+// A proved loop has to end, and nothing says that the input does: the count is one that no input
+// reaches.
+fn main() {
+    let mut turns = u64::MAX;
+    while turns > 0 && answer_one() {
+        turns -= 1;
+    }
+}
