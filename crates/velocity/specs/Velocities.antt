@@ -10,11 +10,11 @@ use Rattle.flight_time.specs.Steps.{xOf, uOf}
 use Rattle.velocity.specs.declared.Speeds.{Speeds}
 use Rattle.velocity.specs.declared.Velocities.{Velocities}
 
--- γ = √((mu·s)/2)
+-- γ = √((mu·s)/2); NaN where that root is refused
 unfoldable pub gammaOf : Float → Float → Float
 gammaOf mu s = rootOrNan ((mu ⊗ s) ⊘ 2F)
 
--- y of step 2, at x; NaN where its root is refused, which no end of a bracket meets
+-- y of step 2 of the time, at x; NaN where its root is refused, where the place has no time
 unfoldable pub yOrNan : Float → Float → Float
 yOrNan L x = rootOrNan (1F ⊖ (L ⊗ L) ⊗ uOf x)
 

@@ -12,11 +12,11 @@ use geometry::Frame;
 use geometry::Triangle;
 
 // The radial and transverse speeds at departure and at arrival.
-pub struct Speeds {
-    pub radial1: f64,
-    pub radial2: f64,
-    pub transverse1: f64,
-    pub transverse2: f64,
+pub(crate) struct Speeds {
+    pub(crate) radial1: f64,
+    pub(crate) radial2: f64,
+    pub(crate) transverse1: f64,
+    pub(crate) transverse2: f64,
 }
 
 // The velocities at departure and at arrival, in km/s.
