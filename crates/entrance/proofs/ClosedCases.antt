@@ -8,7 +8,7 @@ use Rattle.float64.specs.Notation.{bits}
 use Rattle.float64.specs.Value.{finiteOf, magnitudeOf}
 use Rattle.float64.specs.Root.{rootOf}
 use Rattle.float64.specs.declared.Vector.{Vector}
-use Rattle.geometry.specs.Vectors.{normSquared, difference, cross, rootOrNan}
+use Rattle.geometry.specs.Vectors.{normSquared, difference, cross, orNan, rootOrNan}
 use Rattle.geometry.specs.Triangles.{semiperimeterOf, atLeastZero, lambdaOf, triangleOf, shapeOf}
 use Rattle.geometry.specs.Conditions.{outsideOf, radiusOutside, noPlane, shortChord, flatTriangle}
 use Rattle.records.specs.Bytes.{bytesOf, numberAt}
@@ -126,5 +126,5 @@ rows =
     ∷ []
 
 pub each-row-holds : map (λ (r : Row). given (judgeOf (r .question) (r .room))) rows ≡ map (λ (r : Row). r .number) rows
-unfolding rows row asked worked from with-mu with-time with-revolutions given judgeOf checks firstOf malformed farOff positionFar positionsFar muOutside timeOutside manyRevolutions smallBuffer questionOf questionBytes encode questionFields bytesOf numberAt outsideOf radiusOutside noPlane shortChord flatTriangle shapeOf triangleOf semiperimeterOf lambdaOf atLeastZero rootOrNan normSquared difference cross rootOf finiteOf magnitudeOf add sub mul div neg lt le eq ofBits toBits
+unfolding rows row asked worked from with-mu with-time with-revolutions given judgeOf checks firstOf malformed farOff positionFar positionsFar muOutside timeOutside manyRevolutions smallBuffer questionOf questionBytes encode questionFields bytesOf numberAt outsideOf radiusOutside noPlane shortChord flatTriangle shapeOf triangleOf semiperimeterOf lambdaOf atLeastZero orNan rootOrNan normSquared difference cross rootOf finiteOf magnitudeOf add sub mul div neg lt le eq ofBits toBits
 each-row-holds = refl

@@ -8,7 +8,7 @@ use lib.Ieee.{Float, add, sub, mul, div, neg, lt, le, ofBits, ofInt}
 use Rattle.float64.specs.Notation.{bits, float, 0F, 1F, 2F}
 use Rattle.float64.specs.Root.{rootOf}
 use Rattle.float64.specs.declared.Vector.{Vector}
-use Rattle.geometry.specs.Vectors.{normSquared, difference, cross, rootOrNan}
+use Rattle.geometry.specs.Vectors.{normSquared, difference, cross, orNan, rootOrNan}
 use Rattle.geometry.specs.Triangles.{semiperimeterOf, atLeastZero, lambdaOf, triangleOf, shapeOf}
 use Rattle.geometry.specs.Conditions.{noPlane}
 
@@ -47,15 +47,15 @@ pub sides : List Float
 sides = let g = shapeOf (at 3 0 0) (at 0 4 0) false in g .radius1 ∷ g .radius2 ∷ g .triangle .chord ∷ g .triangle .semiperimeter ∷ []
 
 pub right-triangle : sides ≡ float (pos 3) ∷ float (pos 4) ∷ float (pos 5) ∷ float (pos 6) ∷ []
-unfolding sides shapeOf triangleOf semiperimeterOf normSquared difference rootOrNan rootOf add sub mul div ofBits ofInt
+unfolding sides shapeOf triangleOf semiperimeterOf normSquared difference orNan rootOrNan rootOf add sub mul div ofBits ofInt
 right-triangle = refl
 
 -- c/s of 1 and of 2, the long way: -0
 pub long-way-ends : (lambdaOf 1F 1F true ≡ bits 0x8000_0000_0000_0000) × (lambdaOf 2F 1F true ≡ bits 0x8000_0000_0000_0000)
-unfolding lambdaOf atLeastZero rootOrNan rootOf sub div neg lt ofBits
+unfolding lambdaOf atLeastZero orNan rootOrNan rootOf sub div neg lt ofBits
 long-way-ends = (refl, refl)
 
 -- the short way: +0
 pub short-way-ends : (lambdaOf 1F 1F false ≡ 0F) × (lambdaOf 2F 1F false ≡ 0F)
-unfolding lambdaOf atLeastZero rootOrNan rootOf sub div lt ofBits
+unfolding lambdaOf atLeastZero orNan rootOrNan rootOf sub div lt ofBits
 short-way-ends = (refl, refl)

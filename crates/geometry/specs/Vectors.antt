@@ -29,10 +29,10 @@ dividedBy v d = record { x = v .x ⊘ d; y = v .y ⊘ d; z = v .z ⊘ d }
 unfoldable pub opposite : Vector → Vector
 opposite v = record { x = neg (v .x); y = neg (v .y); z = neg (v .z) }
 
--- The root, where the steps want a number: NaN stands for a refused root.
+-- A root, where the steps want a number: NaN stands for a refused one.
+unfoldable pub orNan : Root → Float
+orNan (Value r) = r
+orNan Refused = nan
+
 unfoldable pub rootOrNan : Float → Float
-rootOrNan x = given (rootOf x)
-  where
-    given : Root → Float
-    given (Value r) = r
-    given Refused = nan
+rootOrNan x = orNan (rootOf x)

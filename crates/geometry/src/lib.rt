@@ -19,6 +19,7 @@ use vectors::difference;
 pub use vectors::divided_by;
 pub use vectors::norm_squared;
 use vectors::opposite;
+pub use vectors::or_nan;
 pub use vectors::root_or_nan;
 
 // The numbers that the time and velocity steps share: L, s, c, ρ and σ.

@@ -1,6 +1,6 @@
 // Vectors by component, in 01's order of operations (01, Triangle), and the root as a number.
 ghost use mathlib.Core.Path.{_≡_};
-ghost use Rattle.geometry.specs.Vectors.{normSquared, difference, cross, dividedBy, opposite, rootOrNan};
+ghost use Rattle.geometry.specs.Vectors.{normSquared, difference, cross, dividedBy, opposite, orNan, rootOrNan};
 use float64::Root;
 use float64::Vector;
 use float64::square_root;
@@ -56,12 +56,18 @@ pub(crate) fn opposite(v: Vector) -> Vector
     }
 }
 
-// The root of x, and NaN where it is refused, so that any positions have a shape.
+// A root as a number, NaN where it is refused, so that any positions have a shape.
+pub fn or_nan(root: Root) -> f64
+    ensures { λ r. ⌜ r ≡ orNan root ⌝ }
+{
+    match root {
+        Root::Value(number) => number,
+        Root::Refused => 0.0 / 0.0,
+    }
+}
+
 pub fn root_or_nan(x: f64) -> f64
     ensures { λ r. ⌜ r ≡ rootOrNan x ⌝ }
 {
-    match square_root(x) {
-        Root::Value(root) => root,
-        Root::Refused => 0.0 / 0.0,
-    }
+    or_nan(square_root(x))
 }

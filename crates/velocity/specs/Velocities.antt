@@ -1,12 +1,12 @@
 -- The terminal velocities at a place (01, Velocities; 001, equations 26 to 30). Definitions only.
 use lib.IntN.{ℤ}
 use lib.Ieee.{Float, neg}
-use Rattle.float64.specs.Notation.{_⊕_, _⊖_, _⊗_, _⊘_, 1F, 2F}
+use Rattle.float64.specs.Notation.{_⊕_, _⊖_, _⊗_, _⊘_, 2F}
 use Rattle.float64.specs.declared.Vector.{Vector}
-use Rattle.geometry.specs.Vectors.{cross, rootOrNan}
+use Rattle.geometry.specs.Vectors.{cross, orNan, rootOrNan}
 use Rattle.geometry.specs.declared.Triangle.{Triangle}
 use Rattle.geometry.specs.declared.Frame.{Frame}
-use Rattle.flight_time.specs.Steps.{xOf, uOf}
+use Rattle.flight_time.specs.Steps.{xOf, uOf, yOf}
 use Rattle.velocity.specs.declared.Speeds.{Speeds}
 use Rattle.velocity.specs.declared.Velocities.{Velocities}
 
@@ -16,7 +16,7 @@ gammaOf mu s = rootOrNan ((mu ⊗ s) ⊘ 2F)
 
 -- y of step 2 of the time, at x; NaN where its root is refused, where the place has no time
 unfoldable pub yOrNan : Float → Float → Float
-yOrNan L x = rootOrNan (1F ⊖ (L ⊗ L) ⊗ uOf x)
+yOrNan L x = orNan (yOf L (uOf x))
 
 -- the radial and transverse speeds at both ends, with a = L·y − x and b = L·y + x
 unfoldable pub speedsOf : Float → Triangle → Float → Float → Float → Float → Speeds

@@ -7,12 +7,15 @@ use Rattle.velocity.proofs.y_or_nan.Tie as tie
 u-at-requires : tie.Need-u-at-requires
 u-at-requires c κs = search needs
 
-root-or-nan-requires : tie.Need-root-or-nan-requires
-root-or-nan-requires c κs = search needs
+y-at-requires : tie.Need-y-at-requires
+y-at-requires c κs = search needs
+
+or-nan-requires : tie.Need-or-nan-requires
+or-nan-requires c κs = search needs
 
 returns : tie.Need-returns
 unfolding yOrNan
-returns c = simp (c .root-or-nan .ensures, c .before .u-at .ensures)
+returns c = simp (c .or-nan .ensures, c .before .y-at .ensures, c .before .before .u-at .ensures)
 
 pub y-or-nan-spec : {M : Type 1} → statement M
-y-or-nan-spec = tie.close (tie.spec u-at-requires root-or-nan-requires returns)
+y-or-nan-spec = tie.close (tie.spec u-at-requires y-at-requires or-nan-requires returns)

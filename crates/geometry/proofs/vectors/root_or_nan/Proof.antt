@@ -1,7 +1,5 @@
--- `vectors::root_or_nan` meets its contract, at either variant of what `square_root` ensures.
+-- `vectors::root_or_nan` meets its contract, by what its calls ensure.
 use borrow.Author.Needs.{needs}
-use mathlib.Core.Path.{sym}
-use lib.Ieee.{div, ofBits}
 use Rattle.geometry.specs.Vectors.{rootOrNan}
 use Rattle.geometry.proofs.vectors.root_or_nan.Statement.{statement}
 use Rattle.geometry.proofs.vectors.root_or_nan.Tie as tie
@@ -9,20 +7,12 @@ use Rattle.geometry.proofs.vectors.root_or_nan.Tie as tie
 square-root-requires : tie.Need-square-root-requires
 square-root-requires c κs = search needs
 
-enum-known-root : tie.Need-enum-known-root
-enum-known-root c = search needs
-
-enum-told : tie.Need-enum-told
-enum-told c = search needs
+or-nan-requires : tie.Need-or-nan-requires
+or-nan-requires c κs = search needs
 
 returns : tie.Need-returns
 unfolding rootOrNan
-returns c = simp (sym (c .before .before .before .square-root .ensures), c .before .root .given .1)
-
-returns-2 : tie.Need-returns-2
-unfolding rootOrNan div ofBits
-returns-2 c = simp (sym (c .before .before .square-root .ensures), c .enum-told .given .1)
+returns c = simp (c .or-nan .ensures, c .before .square-root .ensures)
 
 pub root-or-nan-spec : {M : Type 1} → statement M
-root-or-nan-spec =
-    tie.close (tie.spec square-root-requires enum-known-root enum-told returns returns-2)
+root-or-nan-spec = tie.close (tie.spec square-root-requires or-nan-requires returns)
