@@ -1,0 +1,10 @@
+pub mod Places
+pub mod Halving
+pub mod Intervals
+pub mod Lists
+pub mod Turns
+pub mod BracketLaws
+pub mod Keeping
+pub mod Theorems
+pub mod Corners
+pub mod AnyTriangle

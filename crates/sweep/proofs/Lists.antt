@@ -1,0 +1,132 @@
+-- What one more station adds to the crossings, their brackets and the voids, and what is reported once a walk ends.
+use mathlib.Core.Path.{_≡_, refl, sym, ap, _∙_}
+use mathlib.Core.Bool.{Bool, true, false, cond, _||_, or-assoc, or-false}
+use mathlib.Core.List.{List, [], _∷_, _++_, map, append-assoc, append-nil}
+use Prim.Native.Nat.{ℕ, zero, suc, _+_, _-_, _≤_, _<_, min}
+use native.Mathlib.Numerals.{add-one}
+use native.Mathlib.Nat.{add-zero, add-assoc}
+use native.Mathlib.Omega.{arith}
+use borrow.Author.Tests.{le-ltb, lt-ltb}
+use lib.Dec.{ltb}
+use lib.ListN.{length, take, set, replicate, length-append}
+use lib.Seq.{take-all, take-at, set-append-seam, append-snoc}
+use lib.IntN.{ℤ}
+use Rattle.sweep.specs.declared.bisection.Bracket.{Bracket}
+use Rattle.sweep.specs.declared.side.Side.{Side}
+use Rattle.sweep.specs.declared.Walk.{Walk}
+use Rattle.sweep.specs.Sides.{isUnknown}
+use Rattle.sweep.specs.Stations.{stationOf}
+use Rattle.sweep.specs.Crossings.{upTo, keep, some, crosses, crossings, someVoid, bracketOf, brackets, blank, eight, walkOf, reported, sweepOf}
+
+-- ---- lists
+
+map-append : {A B : Type 0} (f : A → B) (xs ys : List A) → map f (xs ++ ys) ≡ map f xs ++ map f ys
+map-append f [] ys = refl
+map-append f (x ∷ xs) ys = ap (λ l. f x ∷ l) (map-append f xs ys)
+
+cond-append : {A : Type 0} (b : Bool) (x : A) (xs ys zs : List A) → xs ≡ ys ++ zs → cond b (x ∷ xs) xs ≡ cond b (x ∷ ys) ys ++ zs
+cond-append true x xs ys zs e = ap (λ l. x ∷ l) e
+cond-append false x xs ys zs e = e
+
+map-cond : {A B : Type 0} (f : A → B) (b : Bool) (x : A) → map f (cond b (x ∷ []) []) ≡ cond b (f x ∷ []) []
+map-cond f true x = refl
+map-cond f false x = refl
+
+pub keep-append : (p : ℕ → Bool) (xs ys : List ℕ) → keep p (xs ++ ys) ≡ keep p xs ++ keep p ys
+unfolding keep
+keep-append p [] ys = refl
+keep-append p (x ∷ xs) ys = cond-append (p x) x (keep p (xs ++ ys)) (keep p xs) (keep p ys) (keep-append p xs ys)
+
+some-append : (p : ℕ → Bool) (xs ys : List ℕ) → some p (xs ++ ys) ≡ some p xs || some p ys
+unfolding some
+some-append p [] ys = refl
+some-append p (x ∷ xs) ys = ap (λ b. p x || b) (some-append p xs ys) ∙ sym (or-assoc (p x) (some p xs) (some p ys))
+
+up-next : (i : ℕ) → upTo (i + 1) ≡ upTo i ++ (i ∷ [])
+unfolding upTo
+up-next i = ap upTo (add-one i)
+
+pub keep-next : (p : ℕ → Bool) (i : ℕ) → keep p (upTo (i + 1)) ≡ keep p (upTo i) ++ cond (p i) (i ∷ []) []
+unfolding keep
+keep-next p i = ap (keep p) (up-next i) ∙ keep-append p (upTo i) (i ∷ [])
+
+pub some-next : (p : ℕ → Bool) (i : ℕ) → some p (upTo (i + 1)) ≡ some p (upTo i) || p i
+unfolding some
+some-next p i = ap (some p) (up-next i) ∙ some-append p (upTo i) (i ∷ []) ∙ ap (λ b. some p (upTo i) || b) (or-false (p i))
+
+-- ---- eight places
+
+-- one more bracket at the end of the used ones
+pub eight-set : (bs : List Bracket) (b : Bracket) → length bs < 8 → set (eight bs) (length bs) b ≡ eight (bs ++ (b ∷ []))
+eight-set bs b h =
+    let e : 8 - length bs ≡ suc (7 - length bs) = omega arith in
+    let f : 8 - length (bs ++ (b ∷ [])) ≡ 7 - length bs = simp length-append (omega arith) in
+    ap (λ (k : ℕ). set (bs ++ replicate k blank) (length bs) b) e
+    ∙ set-append-seam bs blank (replicate (7 - length bs) blank) b
+    ∙ sym (ap (λ (k : ℕ). (bs ++ (b ∷ [])) ++ replicate k blank) f ∙ append-snoc bs b (replicate (7 - length bs) blank))
+
+-- ---- what is reported
+
+pub no-ninth : (bs : List Bracket) (void : Bool) → length bs ≤ 8 → record { list = eight bs; count = length bs; walk = walkOf false void } ≡ reported bs void
+unfolding reported
+no-ninth bs void h =
+    let m : min 8 (length bs) ≡ length bs = omega arith in
+    rw (take-all 8 bs h, m, le-ltb 8 (length bs) h)
+
+pub a-ninth : (bs rest : List Bracket) (b : Bracket) (u void : Bool) → length bs ≡ 8 → record { list = eight bs; count = 8; walk = walkOf true u } ≡ reported (bs ++ (b ∷ rest)) void
+unfolding reported
+a-ninth bs rest b u void h =
+    let n : 8 < length (bs ++ (b ∷ rest)) = simp length-append (omega arith) in
+    let m : min 8 (length (bs ++ (b ∷ rest))) ≡ 8 = omega arith in
+    rw (take-at bs (b ∷ rest) 8 h, m, lt-ltb 8 (length (bs ++ (b ∷ rest))) n)
+
+-- ---- stations
+
+module _ (σ : ℤ → Side) where
+  brackets-next : (i : ℕ) → brackets σ (i + 1) ≡ brackets σ i ++ cond (crosses σ i) (bracketOf σ i ∷ []) []
+  unfolding brackets crossings
+  brackets-next i =
+      ap (map (bracketOf σ)) (keep-next (crosses σ) i)
+      ∙ map-append (bracketOf σ) (crossings σ i) (cond (crosses σ i) (i ∷ []) [])
+      ∙ ap (λ bs. brackets σ i ++ bs) (map-cond (bracketOf σ) (crosses σ i) i)
+
+  pub brackets-yes : (i : ℕ) → crosses σ i ≡ true → brackets σ (i + 1) ≡ brackets σ i ++ (bracketOf σ i ∷ [])
+  brackets-yes i e = rw (brackets-next i, e)
+
+  pub brackets-no : (i : ℕ) → crosses σ i ≡ false → brackets σ (i + 1) ≡ brackets σ i
+  brackets-no i e = rw (brackets-next i, e, append-nil)
+
+  pub void-first : someVoid σ 0 ≡ isUnknown (σ (stationOf 0))
+  unfolding some upTo someVoid
+  void-first = or-false (isUnknown (σ (stationOf 0)))
+
+  pub void-next : (i : ℕ) → someVoid σ (i + 1) ≡ someVoid σ i || isUnknown (σ (stationOf (i + 1)))
+  unfolding someVoid
+  void-next i = some-next (λ j. isUnknown (σ (stationOf j))) (i + 1)
+
+  -- the brackets found so far are the first of all
+  later : (i k : ℕ) → (rest : List Bracket) × (brackets σ (i + k) ≡ brackets σ i ++ rest)
+  later i zero = ([], rw (add-zero, append-nil))
+  later i (suc k) =
+      let r = later i k in
+      let more = cond (crosses σ (i + k)) (bracketOf σ (i + k) ∷ []) [] in (
+        r .0 ++ more,
+        ap (brackets σ) (sym (add-assoc i k 1 ∙ ap (λ (j : ℕ). i + j) (add-one k)))
+            ∙ brackets-next (i + k)
+            ∙ rw (r .1) (append-assoc (brackets σ i) (r .0) more),
+      )
+
+  -- the walk passed every station
+  pub all-passed : (last : ℕ) → length (brackets σ last) ≤ 8 → record { list = eight (brackets σ last); count = length (brackets σ last); walk = walkOf false (someVoid σ last) } ≡ sweepOf σ last
+  unfolding sweepOf
+  all-passed last h = no-ninth (brackets σ last) (someVoid σ last) h
+
+  -- it was left at the pair i, the ninth that crosses
+  pub left-at : (i last : ℕ) (u : Bool) → i < last → length (brackets σ i) ≡ 8 → crosses σ i ≡ true → record { list = eight (brackets σ i); count = 8; walk = walkOf true u } ≡ sweepOf σ last
+  unfolding sweepOf
+  left-at i last u h e y =
+      let j : last ≡ i + 1 + (last - (i + 1)) = omega arith in
+      let r = later (i + 1) (last - (i + 1)) in
+      a-ninth (brackets σ i) (r .0) (bracketOf σ i) u (someVoid σ last) e
+      ∙ ap (λ bs. reported bs (someVoid σ last))
+      (sym (ap (brackets σ) j ∙ r .1 ∙ ap (λ bs. bs ++ r .0) (brackets-yes i y) ∙ append-snoc (brackets σ i) (bracketOf σ i) (r .0)))

@@ -1,0 +1,74 @@
+-- Crossings and their brackets (01, Stations, sides, crossings), over the side of each place; no time stands in these definitions, and nothing that a loop keeps. Definitions only.
+use Prim.Native.Nat.{ℕ, zero, suc, _+_, _-_, min}
+use mathlib.Core.Bool.{Bool, true, false, cond, _||_}
+use mathlib.Core.List.{List, [], _∷_, _++_, map}
+use lib.Dec.{ltb}
+use lib.ListN.{length, take, replicate}
+use lib.IntN.{ℤ, pos}
+use Rattle.sweep.specs.declared.bisection.Bracket.{Bracket}
+use Rattle.sweep.specs.declared.side.Side.{Side}
+use Rattle.sweep.specs.declared.Crossings.{Crossings}
+use Rattle.sweep.specs.declared.Walk.{Walk}
+use Rattle.sweep.specs.declared.Walk.the-variants.{AllTimed, SomeVoid, NinthFound}
+use Rattle.sweep.specs.Sides.{opposite, isUnknown}
+use Rattle.sweep.specs.Stations.{stationOf}
+use Rattle.sweep.specs.Halving.{bisectOf}
+
+-- 0, 1, .., n - 1
+unfoldable pub upTo : ℕ → List ℕ
+upTo zero = []
+upTo (suc n) = upTo n ++ (n ∷ [])
+
+-- those of a list that pass a test, in its order
+unfoldable pub keep : (ℕ → Bool) → List ℕ → List ℕ
+keep p [] = []
+keep p (x ∷ xs) = cond (p x) (x ∷ keep p xs) (keep p xs)
+
+-- whether some of a list passes a test
+unfoldable pub some : (ℕ → Bool) → List ℕ → Bool
+some p [] = false
+some p (x ∷ xs) = p x || some p xs
+
+-- stations i and i + 1, a neighbouring pair, have times on different sides
+unfoldable pub crosses : (ℤ → Side) → ℕ → Bool
+crosses σ i = opposite (σ (stationOf i)) (σ (stationOf (i + 1)))
+
+-- the crossings up to the station `last`, each by the index of its lower station, in rising order
+unfoldable pub crossings : (ℤ → Side) → ℕ → List ℕ
+crossings σ last = keep (crosses σ) (upTo last)
+
+-- whether some station is void, the first and the last among them
+unfoldable pub someVoid : (ℤ → Side) → ℕ → Bool
+someVoid σ last = some (λ i. isUnknown (σ (stationOf i))) (upTo (last + 1))
+
+-- the bracket of a pair: where its halving stops
+unfoldable pub bracketOf : (ℤ → Side) → ℕ → Bracket
+bracketOf σ i = bisectOf σ 20 0 (stationOf i) (stationOf (i + 1))
+
+unfoldable pub brackets : (ℤ → Side) → ℕ → List Bracket
+brackets σ last = map (bracketOf σ) (crossings σ last)
+
+-- a place that is not used
+abbrev pub blank : Bracket
+blank = record { lower = pos 0; upper = pos 0; halvings = 0 }
+
+-- eight places of at most eight brackets: those, and unused places after them
+abbrev pub eight : List Bracket → List Bracket
+eight bs = bs ++ replicate (8 - length bs) blank
+
+-- what is said of the stations: that there is a ninth crossing, and then nothing of their times; or whether some is void
+abbrev pub walkOf : Bool → Bool → Walk
+walkOf ninth void = cond ninth NinthFound (cond void SomeVoid AllTimed)
+
+-- what is reported of all brackets and of whether some station is void: the first eight brackets beside their count, and what is said of the stations
+unfoldable pub reported : List Bracket → Bool → Crossings
+reported bs void =
+    record {
+      list = eight (take 8 bs);
+      count = min 8 (length bs);
+      walk = walkOf (ltb 8 (length bs)) void;
+    }
+
+-- all that a sweep says of the stations up to `last`
+unfoldable pub sweepOf : (ℤ → Side) → ℕ → Crossings
+sweepOf σ last = reported (brackets σ last) (someVoid σ last)
