@@ -11,6 +11,7 @@ pub mod precision;
 pub mod questions;
 pub mod random;
 pub mod root;
+pub mod sweep;
 pub mod time;
 pub mod triangle;
 pub mod velocity;

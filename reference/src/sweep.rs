@@ -1,0 +1,106 @@
+//! The sweep over the stations: sides, crossings, and the halving of each crossing's pair.
+
+use crate::time::{time_at, HIGHEST, HIGHEST_TURNING, LOWEST, SPACING};
+
+/// The most crossings that are listed.
+pub const PLACES: usize = 8;
+
+/// The interval at which the halving of a crossing's pair stops, and how often it was halved.
+#[derive(Clone, Copy, Debug, PartialEq, Eq)]
+pub struct Bracket {
+    pub lower: i64,
+    pub upper: i64,
+    pub halvings: u32,
+}
+
+/// What is known of all stations. A ninth crossing counts before a void station.
+#[derive(Clone, Copy, Debug, PartialEq, Eq)]
+pub enum Walk {
+    Timed,
+    Void,
+    Ninth,
+}
+
+/// The brackets of the first eight crossings, the lowest first.
+#[derive(Clone, Debug, PartialEq, Eq)]
+pub struct Crossings {
+    pub brackets: Vec<Bracket>,
+    pub walk: Walk,
+}
+
+impl Crossings {
+    /// The count, the walk as a word, then both ends of each bracket in sixteen hexadecimal digits
+    /// of two's complement and its halvings.
+    pub fn line(&self) -> String {
+        let walk = match self.walk {
+            Walk::Timed => "timed",
+            Walk::Void => "void",
+            Walk::Ninth => "ninth",
+        };
+        let bracket = |b: &Bracket| format!(" {:016x} {:016x} {}", b.lower, b.upper, b.halvings);
+        let list: String = self.brackets.iter().map(bracket).collect();
+        format!("{} {walk}{list}", self.brackets.len())
+    }
+}
+
+/// The stations in rising order.
+pub fn stations(m: u16) -> impl Iterator<Item = i64> {
+    let highest = if m == 0 { HIGHEST } else { HIGHEST_TURNING };
+    (LOWEST..=highest).step_by(SPACING as usize)
+}
+
+/// The crossings of a wanted time, for any lambda, M and wanted time.
+pub fn crossings(lambda: f64, m: u16, wanted: f64) -> Crossings {
+    let times: Vec<Option<f64>> = stations(m).map(|k| time_at(lambda, k, m)).collect();
+    crossings_of(&times, wanted, |k| time_at(lambda, k, m))
+}
+
+/// The same, of the stations' times (None is void) and the time at any place.
+pub fn crossings_of(times: &[Option<f64>], wanted: f64, time: impl Fn(i64) -> Option<f64>) -> Crossings {
+    let found: Vec<usize> = changes(times, wanted).take(PLACES + 1).collect();
+    let walk = if found.len() > PLACES {
+        Walk::Ninth
+    } else if times.contains(&None) {
+        Walk::Void
+    } else {
+        Walk::Timed
+    };
+    let side = |k: i64| time(k).map(|t| below(t, wanted));
+    let bracket = |&i: &usize| {
+        let lower = LOWEST + i as i64 * SPACING;
+        let rising = times[i].is_some_and(|t| below(t, wanted));
+        halve(Bracket { lower, upper: lower + SPACING, halvings: 0 }, rising, &side)
+    };
+    Crossings { brackets: found.iter().take(PLACES).map(bracket).collect(), walk }
+}
+
+/// The index of the lower station of each crossing, rising.
+pub fn changes(times: &[Option<f64>], wanted: f64) -> impl Iterator<Item = usize> + '_ {
+    let crossing = move |(i, pair): (usize, &[Option<f64>])| match *pair {
+        [Some(s), Some(t)] if below(s, wanted) != below(t, wanted) => Some(i),
+        _ => None,
+    };
+    times.windows(2).enumerate().filter_map(crossing)
+}
+
+/// The side of a time. One that equals the wanted time isn't below it.
+fn below(time: f64, wanted: f64) -> bool {
+    time < wanted
+}
+
+/// Halves a bracket to width 1 or to a void middle. `rising` says that the lower end is below, and
+/// the upper end then isn't; the middle replaces the end of its own side.
+fn halve(b: Bracket, rising: bool, side: &impl Fn(i64) -> Option<bool>) -> Bracket {
+    let middle = (b.lower + b.upper) / 2;
+    if b.upper - b.lower == 1 || middle == b.lower || middle == b.upper {
+        return b;
+    }
+    let Some(is_below) = side(middle) else {
+        return b;
+    };
+    let (lower, upper) = if is_below == rising { (middle, b.upper) } else { (b.lower, middle) };
+    halve(Bracket { lower, upper, halvings: b.halvings + 1 }, rising, side)
+}
+
+#[cfg(test)]
+mod tests;

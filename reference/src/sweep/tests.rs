@@ -1,0 +1,174 @@
+//! The document's words on stations, sides and crossings, on times that are made up.
+
+use super::*;
+use crate::time::PARABOLA;
+
+fn timed(times: &[f64]) -> Vec<Option<f64>> {
+    times.iter().map(|&t| Some(t)).collect()
+}
+
+/// The crossings among a few stations, no middle of which has a time.
+fn among(times: &[Option<f64>], wanted: f64) -> Crossings {
+    crossings_of(times, wanted, |_| None)
+}
+
+/// The lower stations' indices of the crossings of the wanted time 2.
+fn places(times: &[f64]) -> Vec<usize> {
+    changes(&timed(times), 2.0).collect()
+}
+
+/// A time that grows by 1 with k, from 0 at the lowest station.
+fn slope(k: i64) -> f64 {
+    (k - LOWEST) as f64
+}
+
+#[test]
+fn the_stations() {
+    for (m, count, last) in
+        [(0, 20_480, 16_384), (1, 8_191, 4_095), (16, 8_191, 4_095), (u16::MAX, 8_191, 4_095)]
+    {
+        let all: Vec<i64> = stations(m).collect();
+        assert_eq!(all.len(), count);
+        assert_eq!((all[0], all[count - 1]), (-4_095 << 20, last << 20));
+        assert!(all.windows(2).all(|k| k[1] - k[0] == 1 << 20));
+    }
+}
+
+#[test]
+fn the_four_corners() {
+    assert_eq!(places(&[1.0, 2.0, 3.0]), [0]);
+    assert_eq!(places(&[3.0, 2.0, 1.0]), [1]);
+    assert_eq!(places(&[3.0, 2.0, 3.0]), []);
+    assert_eq!(places(&[1.0, 2.0, 1.0]), [0, 1]);
+    assert_eq!(places(&[4.0, 3.0, 2.0]), []);
+}
+
+#[test]
+fn equal_stations_in_a_row_are_on_one_side() {
+    assert_eq!(places(&[2.0, 2.0, 2.0]), []);
+    assert_eq!(places(&[1.0, 2.0, 2.0, 3.0]), [0]);
+    assert_eq!(places(&[3.0, 2.0, 2.0, 1.0]), [2]);
+    assert_eq!(places(&[]), []);
+    assert_eq!(places(&[1.0]), []);
+}
+
+/// Two roots inside one pair leave its ends on one side.
+#[test]
+fn two_roots_inside_one_pair_are_not_seen() {
+    let found = crossings_of(&timed(&[3.0, 3.0]), 2.0, |_| Some(1.0));
+    assert_eq!(found, Crossings { brackets: vec![], walk: Walk::Timed });
+}
+
+/// A pair with a void station is no crossing, and the void one is told beside those found.
+#[test]
+fn void_stations() {
+    let (a, b) = (Some(1.0), Some(3.0));
+    assert_eq!(among(&[a, None, b], 2.0), Crossings { brackets: vec![], walk: Walk::Void });
+    let found = among(&[None, a, b, None, a], 2.0);
+    assert_eq!((found.brackets.len(), found.walk), (1, Walk::Void));
+    assert_eq!(found.brackets[0].lower, LOWEST + SPACING);
+    assert_eq!(among(&[None, None], 2.0), Crossings { brackets: vec![], walk: Walk::Void });
+}
+
+/// Middles are odd multiples of 2^19, 2^18 and so on above the lower station: the first that is void
+/// ends the halving and isn't counted, and the width tells how many came before.
+#[test]
+fn a_void_middle_at_every_depth() {
+    for depth in 0..=20 {
+        let width = 1i64 << (20 - depth);
+        let time = |k: i64| ((k - LOWEST) % width == 0).then_some(slope(k));
+        for root in [1, 2, 3, 524_287, 524_288, 524_289, 700_001, 1_048_575] {
+            let wanted = root as f64;
+            let times = timed(&[0.0, SPACING as f64]);
+            let b = crossings_of(&times, wanted, time).brackets[0];
+            assert_eq!((b.halvings, b.upper - b.lower), (depth, width));
+            assert!(slope(b.lower) < wanted && wanted <= slope(b.upper));
+        }
+    }
+}
+
+/// Only the middles that the halving meets matter.
+#[test]
+fn a_void_place_beside_the_path_is_not_met() {
+    let beside = LOWEST + 3 * SPACING / 4;
+    let time = |k: i64| (k != beside).then_some(slope(k));
+    let found = crossings_of(&timed(&[0.0, SPACING as f64]), 5.0, time);
+    let b = Bracket { lower: LOWEST + 4, upper: LOWEST + 5, halvings: 20 };
+    assert_eq!(found.brackets, [b]);
+}
+
+/// On a falling slope the lower end isn't below; a middle equal to the wanted time replaces it.
+#[test]
+fn a_falling_slope() {
+    let fall = |k: i64| Some(-slope(k));
+    let found = crossings_of(&timed(&[0.0, -(SPACING as f64)]), -5.0, fall);
+    let b = Bracket { lower: LOWEST + 5, upper: LOWEST + 6, halvings: 20 };
+    assert_eq!(found, Crossings { brackets: vec![b], walk: Walk::Timed });
+}
+
+#[test]
+fn the_bracket_of_a_later_pair() {
+    let root = 3 * SPACING + 77;
+    let times: Vec<_> = (0..6).map(|i| Some((i * SPACING) as f64)).collect();
+    let found = crossings_of(&times, root as f64, |k| Some(slope(k)));
+    let b = Bracket { lower: LOWEST + root - 1, upper: LOWEST + root, halvings: 20 };
+    assert_eq!(found.brackets, [b]);
+}
+
+/// Times that change sides `n` times, then stay.
+fn zigzag(n: usize) -> Vec<Option<f64>> {
+    (0..=n).map(|i| Some(if i % 2 == 0 { 1.0 } else { 3.0 })).collect()
+}
+
+#[test]
+fn eight_crossings_are_listed() {
+    let found = among(&zigzag(8), 2.0);
+    assert_eq!((found.brackets.len(), found.walk), (PLACES, Walk::Timed));
+    let lowers: Vec<i64> = found.brackets.iter().map(|b| b.lower).collect();
+    assert_eq!(lowers, (0..8).map(|i| LOWEST + i * SPACING).collect::<Vec<_>>());
+}
+
+/// The ninth ends the walk, wherever a void station is; eight don't.
+#[test]
+fn nine_crossings_end_the_walk() {
+    for n in [9, 10, 40] {
+        for (before, after) in [(false, false), (true, false), (false, true)] {
+            let mut times = zigzag(n);
+            times.splice(0..0, before.then_some(None));
+            times.extend(after.then_some(None));
+            let found = among(&times, 2.0);
+            assert_eq!((found.brackets.len(), found.walk), (PLACES, Walk::Ninth));
+        }
+    }
+    let mut times = zigzag(8);
+    times.push(None);
+    assert_eq!(among(&times, 2.0).walk, Walk::Void);
+}
+
+/// A wanted time that isn't a number is above no time.
+#[test]
+fn an_odd_wanted_time_makes_no_crossing() {
+    for wanted in [f64::NAN, f64::INFINITY, f64::NEG_INFINITY] {
+        assert_eq!(among(&zigzag(8), wanted), Crossings { brackets: vec![], walk: Walk::Timed });
+    }
+}
+
+/// The times of L = 0.5 fall with k without whole turns, so each wanted time has one place: width 1
+/// after twenty halvings.
+#[test]
+fn a_wanted_time_of_a_real_curve() {
+    let t = |k| time_at(0.5, k, 0).unwrap();
+    let wanted = t(PARABOLA + 12_345);
+    let found = crossings(0.5, 0, wanted);
+    let [b] = found.brackets[..] else { panic!("{found:?}") };
+    assert_eq!((found.walk, b.halvings, b.upper - b.lower), (Walk::Timed, 20, 1));
+    assert!(t(b.lower) >= wanted && t(b.upper) < wanted);
+}
+
+/// Every station is void where lambda isn't below 1 in size or M is above 16.
+#[test]
+fn nothing_but_void_stations() {
+    for (lambda, m) in [(1.0, 0), (-1.0, 3), (f64::NAN, 0), (0.5, 17)] {
+        assert_eq!(crossings(lambda, m, 1.0), Crossings { brackets: vec![], walk: Walk::Void });
+    }
+}
