@@ -12,6 +12,7 @@ pub mod questions;
 pub mod random;
 pub mod root;
 pub mod sweep;
+pub mod sweeps;
 pub mod time;
 pub mod triangle;
 pub mod velocity;

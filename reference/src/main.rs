@@ -1,12 +1,12 @@
 //! The commands of the independent second program. Each writes vectors to standard output.
 
-use reference::{entrance, flights, places, precision, questions, root};
+use reference::{entrance, flights, places, precision, questions, root, sweeps};
 use std::io::{BufWriter, Write};
 use std::process::ExitCode;
 
 const USAGE: &str =
     "usage: reference root | entrance questions | entrance verdicts | time places | time times |
-       time precision | velocity flights | velocity velocities
+       time precision | velocity flights | velocity velocities | sweep cases | sweep crossings
   root                 a line for each operand: its bits and the bits of its root, as hexadecimal digits
   entrance questions   a frame for each case: size and room, u16 little-endian, then the question's
                        bytes with zeros up to 120
@@ -15,7 +15,11 @@ const USAGE: &str =
   time times           a line for each place: the bits of its time as hexadecimal digits, or void
   time precision       the largest relative errors of the times over a grid of places
   velocity flights     a frame for each case: the bits of 17 floats u64, k i64, little-endian
-  velocity velocities  a line for each case: the bits of v1 x y z and v2 x y z as hexadecimal digits";
+  velocity velocities  a line for each case: the bits of v1 x y z and v2 x y z as hexadecimal digits
+  sweep cases          a frame for each case: the bits of lambda and of the wanted time u64, M as u64,
+                       little-endian
+  sweep crossings      a line for each case: the number of brackets; timed, void or ninth; then the
+                       lower and upper end of each as hexadecimal digits and its halvings";
 
 fn main() -> ExitCode {
     let words: Vec<String> = std::env::args().skip(1).collect();
@@ -29,6 +33,8 @@ fn main() -> ExitCode {
         ["time", "precision"] => out.write_all(precision::report().as_bytes()),
         ["velocity", "flights"] => write_flights(&mut out),
         ["velocity", "velocities"] => write_velocities(&mut out),
+        ["sweep", "cases"] => write_sweeps(&mut out),
+        ["sweep", "crossings"] => write_crossings(&mut out),
         _ => {
             eprintln!("{USAGE}");
             return ExitCode::from(2);
@@ -75,4 +81,12 @@ fn write_flights(out: &mut impl Write) -> std::io::Result<()> {
 
 fn write_velocities(out: &mut impl Write) -> std::io::Result<()> {
     flights::flights().iter().try_for_each(|case| writeln!(out, "{}", case.line()))
+}
+
+fn write_sweeps(out: &mut impl Write) -> std::io::Result<()> {
+    sweeps::cases().iter().try_for_each(|case| out.write_all(&case.frame()))
+}
+
+fn write_crossings(out: &mut impl Write) -> std::io::Result<()> {
+    sweeps::cases().iter().try_for_each(|case| writeln!(out, "{}", case.line()))
 }

@@ -1,0 +1,66 @@
+//! The sweeps that are compared, in a fixed order.
+
+mod curve;
+mod lambdas;
+mod outside;
+mod rare;
+
+use crate::random::Random;
+use crate::sweep::crossings;
+use crate::time::MOST_TURNS;
+use curve::{Curve, SORTS};
+
+pub const FRAME: usize = 24;
+
+/// What is handed to the sweep: the bits of lambda and of the wanted time, which may be any
+/// patterns, and M.
+#[derive(Clone, Copy, Debug, PartialEq, Eq)]
+pub struct Case {
+    pub lambda: u64,
+    pub wanted: u64,
+    pub m: u16,
+}
+
+impl Case {
+    fn new(lambda: f64, wanted: f64, m: u16) -> Case {
+        Case { lambda: lambda.to_bits(), wanted: wanted.to_bits(), m }
+    }
+
+    /// Lambda's bits, the wanted time's and M as a word, each little-endian.
+    pub fn frame(&self) -> [u8; FRAME] {
+        let mut frame = [0; FRAME];
+        frame[..8].copy_from_slice(&self.lambda.to_le_bytes());
+        frame[8..16].copy_from_slice(&self.wanted.to_le_bytes());
+        frame[16..].copy_from_slice(&u64::from(self.m).to_le_bytes());
+        frame
+    }
+
+    pub fn line(&self) -> String {
+        crossings(f64::from_bits(self.lambda), self.m, f64::from_bits(self.wanted)).line()
+    }
+}
+
+/// Every sweep of the comparison.
+pub fn cases() -> Vec<Case> {
+    let mut r = Random::new(11);
+    let mut all = every_turn(&mut r);
+    all.extend(rare::cases(&mut r));
+    all.extend(outside::cases(&mut r));
+    all
+}
+
+/// Every number of whole turns for each lambda, the sort of the wanted time another each time.
+fn every_turn(r: &mut Random) -> Vec<Case> {
+    let mut all = Vec::new();
+    for (i, lambda) in lambdas::lambdas(r).into_iter().enumerate() {
+        for m in 0..=MOST_TURNS {
+            let curve = Curve::new(lambda, m);
+            let sort = (i as u64 + u64::from(m)) % SORTS;
+            all.push(Case::new(lambda, curve.wanted(sort, r), m));
+        }
+    }
+    all
+}
+
+#[cfg(test)]
+mod tests;

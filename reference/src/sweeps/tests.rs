@@ -1,0 +1,116 @@
+//! The list is as long and as varied as asked.
+
+use super::*;
+use crate::sweep::{stations, Crossings, Walk};
+use crate::time::time_at;
+use std::collections::{BTreeMap, BTreeSet};
+use std::sync::OnceLock;
+
+/// Every case with its crossings, worked out once for all tests.
+fn rows() -> &'static [(Case, Crossings)] {
+    static ROWS: OnceLock<Vec<(Case, Crossings)>> = OnceLock::new();
+    ROWS.get_or_init(|| cases().into_iter().map(|c| (c, found(&c))).collect())
+}
+
+fn found(c: &Case) -> Crossings {
+    crossings(f64::from_bits(c.lambda), c.m, f64::from_bits(c.wanted))
+}
+
+fn stopped_early(c: &Crossings) -> bool {
+    c.brackets.iter().any(|b| b.halvings < 20)
+}
+
+#[test]
+fn every_number_of_turns_for_320_triangles_and_more() {
+    let mut turns: BTreeMap<u64, BTreeSet<u16>> = BTreeMap::new();
+    for (case, _) in rows() {
+        turns.entry(case.lambda).or_default().insert(case.m);
+    }
+    let swept = |inside: bool| {
+        let whole = |ms: &BTreeSet<u16>| (0..=MOST_TURNS).all(|m| ms.contains(&m));
+        turns.iter().filter(|(&l, ms)| whole(ms) && (f64::from_bits(l).abs() < 1.0) == inside).count()
+    };
+    println!("lambdas with every M: {} below 1 in size, {} others", swept(true), swept(false));
+    assert!(swept(true) >= 320 && swept(false) >= 16);
+    for m in [17, 18, u16::MAX] {
+        assert!(rows().iter().any(|(c, _)| c.m == m));
+    }
+}
+
+/// Each count with times everywhere and with void stations, and the walk that is left at the ninth.
+#[test]
+fn every_count_and_every_walk() {
+    let mut tally = BTreeMap::new();
+    for (_, c) in rows() {
+        *tally.entry((c.brackets.len(), format!("{:?}", c.walk), stopped_early(c))).or_insert(0) += 1;
+    }
+    println!("{} sweeps", rows().len());
+    tally.iter().for_each(|((n, walk, early), rows)| println!("{n} {walk} stopped early: {early}, {rows}"));
+    let at_least = |n: usize, walk: Walk, least: usize| {
+        let some = rows().iter().filter(|(_, c)| c.brackets.len() == n && c.walk == walk);
+        assert!(some.count() >= least, "{n} {walk:?}");
+    };
+    for n in 0..=2 {
+        at_least(n, Walk::Timed, 500);
+        at_least(n, Walk::Void, 100);
+    }
+    for n in 3..=8 {
+        at_least(n, Walk::Timed, 5);
+        at_least(n, Walk::Void, 10);
+    }
+    at_least(8, Walk::Ninth, 50);
+    assert!(rows().iter().filter(|(_, c)| stopped_early(c)).count() >= 100);
+}
+
+/// Whether some station's time is the wanted one to the bit: between two below, between two above,
+/// between one of each, and at an end.
+fn met(case: &Case) -> [bool; 4] {
+    let (lambda, wanted) = (f64::from_bits(case.lambda), f64::from_bits(case.wanted));
+    let times: Vec<_> = stations(case.m).map(|k| time_at(lambda, k, case.m)).collect();
+    let between = |is: fn(f64, f64, f64) -> bool| {
+        times.windows(3).any(|t| match *t {
+            [Some(a), Some(b), Some(c)] => b == wanted && is(a, b, c),
+            _ => false,
+        })
+    };
+    let at_end = [times.first(), times.last()].contains(&Some(&Some(wanted)));
+    let slope = between(|a, b, c| a < b && b < c || a > b && b > c);
+    [between(|a, b, c| a < b && c < b), between(|a, b, c| a > b && c > b), slope, at_end]
+}
+
+/// The document's corners, in sweeps that aren't left at a ninth crossing.
+#[test]
+fn stations_that_meet_the_wanted_time() {
+    let walked = rows().iter().filter(|(_, c)| c.walk != Walk::Ninth);
+    let all: Vec<_> = walked.map(|(case, _)| met(case)).collect();
+    let counts: [usize; 4] = std::array::from_fn(|i| all.iter().filter(|met| met[i]).count());
+    println!("met between two below, two above, one of each, at an end: {counts:?}");
+    assert!(counts.iter().all(|&n| n >= 50), "{counts:?}");
+}
+
+#[test]
+fn the_width_tells_the_halvings() {
+    for b in rows().iter().flat_map(|(_, c)| &c.brackets) {
+        assert_eq!(b.upper - b.lower, 1 << (20 - b.halvings));
+    }
+}
+
+#[test]
+fn odd_wanted_times_occur() {
+    for odd in curve::ODD {
+        assert!(rows().iter().filter(|(c, _)| c.wanted == odd.to_bits()).count() >= 20, "{odd}");
+    }
+}
+
+#[test]
+fn a_frame_is_24_bytes() {
+    let frame = Case { lambda: 0x0102_0304_0506_0708, wanted: 0x1112_1314_1516_1718, m: 0x0910 }.frame();
+    assert_eq!(frame[..8], [8, 7, 6, 5, 4, 3, 2, 1]);
+    assert_eq!(frame[8..16], [0x18, 0x17, 0x16, 0x15, 0x14, 0x13, 0x12, 0x11]);
+    assert_eq!(frame[16..], [0x10, 9, 0, 0, 0, 0, 0, 0]);
+}
+
+#[test]
+fn every_list_is_the_same() {
+    assert!(rows().iter().map(|(case, _)| *case).eq(cases()));
+}
