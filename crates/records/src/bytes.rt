@@ -5,25 +5,36 @@ ghost use lib.ListN.{length, getD};
 ghost use lib.Seq.{sets};
 ghost use Rattle.records.specs.Bytes.{bytesOf, numberAt};
 
-// A byte past the end counts as 0.
-fn byte_at(s: &[u8], at: usize) -> u64
-    ensures { λ r. ⌜ (r ≡ getD (now (s .entry)) at 0) × (r < 256) ⌝ }
+// The byte `i` past `at`. One past the end counts as 0.
+fn byte_at(s: &[u8], at: usize, i: usize) -> u64
+    ensures { λ r. ⌜ (r ≡ getD (now (s .entry)) (at + i) 0) × (r < 256) ⌝ }
 {
-    if at < s.len() { s[at] as u64 } else { 0 }
+    if at < s.len() && i < s.len() - at {
+        s[at + i] as u64
+    } else {
+        0
+    }
 }
 
 // The number whose bytes, at most eight, stand from `at` on.
 pub(crate) fn number_at(s: &[u8], at: usize, width: usize) -> u64
-    requires { ⌜ (width ≤ 8) × (at ≤ 256) ⌝ }
+    requires { ⌜ width ≤ 8 ⌝ }
     ensures { λ r. ⌜ r ≡ numberAt width (now (s .entry)) at ⌝ }
 {
     let mut value = 0u64;
     let mut left = width;
     while 0 < left {
         left -= 1;
-        value = value * 256 + byte_at(s, at + left);
+        value = value * 256 + byte_at(s, at, left);
     }
     value
+}
+
+// The number of the eight bytes from `at` on.
+pub fn word_at(s: &[u8], at: usize) -> u64
+    ensures { λ r. ⌜ r ≡ numberAt 8 (now (s .entry)) at ⌝ }
+{
+    number_at(s, at, 8)
 }
 
 // Stores the lowest `width` bytes of a number from `at` on.

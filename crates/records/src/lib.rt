@@ -1,5 +1,6 @@
 // The records of 01, read from bytes and written to them. Reading takes any bytes, one past the end counting as 0; writing
-// starts at the buffer's first byte, and where there is no room it changes nothing and says so.
+// starts at the buffer's first byte, and where there is no room it changes nothing and says so. Their words of 64 bits can be
+// read singly too.
 mod bytes;
 mod entries;
 mod fields;
@@ -7,6 +8,7 @@ mod heads;
 mod questions;
 mod words;
 
+pub use bytes::word_at;
 pub use entries::read_entry;
 pub use entries::write_entry;
 use float64::Vector;
@@ -16,6 +18,8 @@ pub use heads::refusal;
 pub use heads::write_head;
 pub use questions::read_question;
 pub use questions::write_question;
+pub use words::signed_bits;
+pub use words::signed_of;
 
 // A question (kind 1).
 pub struct Question {

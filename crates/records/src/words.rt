@@ -32,13 +32,13 @@ pub(crate) fn vector_of(x: u64, y: u64, z: u64) -> Vector
 }
 
 // A signed number in two's complement, and back.
-pub(crate) fn signed_bits(k: i64) -> u64
+pub fn signed_bits(k: i64) -> u64
     ensures { λ r. ⌜ r ≡ signedBits k ⌝ }
 {
     if k < 0 { !((!k) as u64) } else { k as u64 }
 }
 
-pub(crate) fn signed_of(b: u64) -> i64
+pub fn signed_of(b: u64) -> i64
     ensures { λ r. ⌜ r ≡ signedOf b ⌝ }
 {
     if b < 0x8000_0000_0000_0000 {

@@ -1,6 +1,6 @@
 // Reads frames of 144 bytes, each a flight: 17 floats and the place k. Writes a line for each, the
 // bits of v1 and v2. What the independent program makes of the same frames is the expected output.
-ghost use Prim.Native.Nat.{_≤_, _<_};
+ghost use Prim.Native.Nat.{_≤_};
 use float64::Vector;
 use geometry::Frame;
 use geometry::Triangle;
@@ -8,41 +8,11 @@ use libc::STDIN_FILENO;
 use libc::STDOUT_FILENO;
 use velocity::Velocities;
 
-fn wide(b: u8) -> u64
-    ensures { λ r. ⌜ r < 256 ⌝ }
-{
-    b as u64
+fn number(frame: &[u8], at: usize) -> f64 {
+    float64::from_bits(records::word_at(frame, at))
 }
 
-// The number of the eight bytes from `at` on, the lowest first.
-fn word(frame: &[u8; 144], at: usize) -> u64
-    requires { ⌜ at ≤ 136 ⌝ }
-{
-    let mut value = 0u64;
-    let mut left: usize = 8;
-    while 0 < left {
-        left -= 1;
-        value = value % 0x0100_0000_0000_0000 * 256 + wide(frame[at + left]);
-    }
-    value
-}
-
-// A word read as a signed number.
-fn signed(b: u64) -> i64 {
-    if b < 0x8000_0000_0000_0000 {
-        b as i64
-    } else {
-        !((!b) as i64)
-    }
-}
-
-fn number(frame: &[u8; 144], at: usize) -> f64
-    requires { ⌜ at ≤ 136 ⌝ }
-{
-    float64::from_bits(word(frame, at))
-}
-
-fn vector(frame: &[u8; 144], at: usize) -> Vector
+fn vector(frame: &[u8], at: usize) -> Vector
     requires { ⌜ at ≤ 112 ⌝ }
 {
     Vector {
@@ -52,7 +22,7 @@ fn vector(frame: &[u8; 144], at: usize) -> Vector
     }
 }
 
-fn triangle_of(frame: &[u8; 144]) -> Triangle {
+fn triangle_of(frame: &[u8]) -> Triangle {
     Triangle {
         lambda: number(frame, 8),
         semiperimeter: number(frame, 16),
@@ -62,7 +32,7 @@ fn triangle_of(frame: &[u8; 144]) -> Triangle {
     }
 }
 
-fn frame_of(frame: &[u8; 144]) -> Frame {
+fn frame_of(frame: &[u8]) -> Frame {
     let normal = vector(frame, 64);
     let unit1 = vector(frame, 88);
     let unit2 = vector(frame, 112);
@@ -73,13 +43,13 @@ fn frame_of(frame: &[u8; 144]) -> Frame {
     }
 }
 
-fn flown(frame: &[u8; 144]) -> Velocities {
+fn flown(frame: &[u8]) -> Velocities {
     let triangle = triangle_of(frame);
     let directions = frame_of(frame);
     let mu = number(frame, 0);
     let radius1 = number(frame, 48);
     let radius2 = number(frame, 56);
-    let k = signed(word(frame, 136));
+    let k = records::signed_of(records::word_at(frame, 136));
     velocity::velocities_at(mu, triangle, radius1, radius2, directions, k)
 }
 

@@ -29,9 +29,6 @@ mul-value c =
     let a = c .before .before .before .args in
     omega (arith, within (a .width - l .left) (l .value) (omega (arith, c .before .before .before .pre, c .loop-test .taken)) (l .inv .2))
 
-add-byte-at : tie.Need-add-byte-at Inv-loop μ-loop
-add-byte-at c = search needs
-
 byte-at-requires : tie.Need-byte-at-requires Inv-loop μ-loop
 byte-at-requires c κs = search needs
 
@@ -68,7 +65,6 @@ number-at-spec =
     loop-holds
     sub-left
     mul-value
-    add-byte-at
     byte-at-requires
     add-value
     loop-less

@@ -30,7 +30,7 @@ array-read-number-at c = search needs
 number-at-requires : tie.Need-number-at-requires Inv-loop μ-loop
 number-at-requires c κs =
     let s = c .before .before .before in
-    (narrow-at (s .args .t2) (c .before .loop .i) (s .pre), omega arith)
+    narrow-at (s .args .t2) (c .before .loop .i) (s .pre)
 
 mul-values : tie.Need-mul-values Inv-loop μ-loop
 mul-values c = search needs
