@@ -1,0 +1,88 @@
+// Reads frames of 24 bytes, each a sweep: the bits of lambda, the bits of the wanted time and the whole
+// revolutions. Writes a line for each: the count of the crossings, how the walk ended, and the ends and
+// halvings of each bracket. What the independent program makes of the same frames is the expected output.
+ghost use mathlib.Core.Path.{_≡_};
+ghost use Rattle.records.specs.Bytes.{numberAt};
+use geometry::Triangle;
+use libc::STDIN_FILENO;
+use libc::STDOUT_FILENO;
+use sweep::Bracket;
+use sweep::Crossings;
+use sweep::Walk;
+
+fn wanted_bits(frame: &[u8]) -> u64
+    ensures { λ r. ⌜ r ≡ numberAt 8 (now (frame .entry)) 8 ⌝ }
+{
+    records::word_at(frame, 8)
+}
+
+// A triangle with the frame's lambda: the chord is 1 - lambda^2 of the semiperimeter, and the sweep
+// asks nothing of rho and sigma.
+fn crossings_of(frame: &[u8]) -> Crossings {
+    let lambda = float64::from_bits(records::word_at(frame, 0));
+    let triangle = Triangle {
+        lambda,
+        semiperimeter: 1.0,
+        chord: 1.0 - lambda * lambda,
+        rho: 0.0,
+        sigma: 1.0,
+    };
+    let m = (records::word_at(frame, 16) % 65536) as u16;
+    sweep::find_crossings(triangle, m, float64::from_bits(wanted_bits(frame)))
+}
+
+fn print_walk(walk: Walk) {
+    match walk {
+        Walk::AllTimed => {
+            io::write_all(STDOUT_FILENO, b" timed");
+        }
+        Walk::SomeVoid => {
+            io::write_all(STDOUT_FILENO, b" void");
+        }
+        Walk::NinthFound => {
+            io::write_all(STDOUT_FILENO, b" ninth");
+        }
+    }
+}
+
+fn print_bracket(bracket: Bracket) {
+    io::write_all(STDOUT_FILENO, b" ");
+    io::print_hex(STDOUT_FILENO, records::signed_bits(bracket.lower), 16);
+    io::write_all(STDOUT_FILENO, b" ");
+    io::print_hex(STDOUT_FILENO, records::signed_bits(bracket.upper), 16);
+    io::write_all(STDOUT_FILENO, b" ");
+    io::print_decimal(STDOUT_FILENO, bracket.halvings as u64);
+}
+
+// The used places, of which there are no more than eight.
+fn print_list(list: [Bracket; 8], count: usize) {
+    let mut i: usize = 0;
+    while i < 8 && i < count {
+        print_bracket(list[i]);
+        i += 1;
+    }
+}
+
+// Takes one frame, and answers whether it was whole and its line was written.
+fn answer_one() -> bool {
+    let mut frame = [0u8; 24];
+    if io::read_full(STDIN_FILENO, &mut frame) < 24 {
+        return false;
+    }
+    let found = crossings_of(&frame);
+    let walk = found.walk;
+    let list = found.list;
+    io::print_decimal(STDOUT_FILENO, found.count as u64);
+    print_walk(walk);
+    print_list(list, found.count);
+    io::write_all(STDOUT_FILENO, b"\n")
+}
+
+// A proved loop has to end, and nothing says that the input does: the count is one that no input
+// reaches.
+fn main() {
+    let mut turns = u64::MAX;
+    while turns > 0 && answer_one() {
+        turns -= 1;
+    }
+}
