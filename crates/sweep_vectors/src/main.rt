@@ -3,7 +3,6 @@
 // halvings of each bracket. What the independent program makes of the same frames is the expected output.
 ghost use mathlib.Core.Path.{_≡_};
 ghost use Rattle.records.specs.Bytes.{numberAt};
-use geometry::Triangle;
 use libc::STDIN_FILENO;
 use libc::STDOUT_FILENO;
 use sweep::Bracket;
@@ -16,17 +15,8 @@ fn wanted_bits(frame: &[u8]) -> u64
     records::word_at(frame, 8)
 }
 
-// A triangle with the frame's lambda: the chord is 1 - lambda^2 of the semiperimeter, and the sweep
-// asks nothing of rho and sigma.
 fn crossings_of(frame: &[u8]) -> Crossings {
-    let lambda = float64::from_bits(records::word_at(frame, 0));
-    let triangle = Triangle {
-        lambda,
-        semiperimeter: 1.0,
-        chord: 1.0 - lambda * lambda,
-        rho: 0.0,
-        sigma: 1.0,
-    };
+    let triangle = time_bits::with_lambda(records::word_at(frame, 0));
     let m = (records::word_at(frame, 16) % 65536) as u16;
     sweep::find_crossings(triangle, m, float64::from_bits(wanted_bits(frame)))
 }

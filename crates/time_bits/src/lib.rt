@@ -6,7 +6,7 @@ use geometry::Triangle;
 
 // A triangle with the given lambda: the chord is 1 - lambda^2 of the semiperimeter, and the time asks
 // nothing of rho and sigma.
-fn with_lambda(b: u64) -> Triangle
+pub fn with_lambda(b: u64) -> Triangle
     ensures { λ r. ⌜ r ≡ withLambda b ⌝ }
 {
     let lambda = float64::from_bits(b);

@@ -4,7 +4,6 @@
 ghost use mathlib.Core.Path.{_≡_};
 ghost use Rattle.records.specs.Bytes.{numberAt};
 use flight_time::Place;
-use geometry::Triangle;
 use libc::STDIN_FILENO;
 use libc::STDOUT_FILENO;
 
@@ -19,17 +18,8 @@ fn turns_of(frame: &[u8]) -> u16 {
     (records::word_at(frame, 16) % 65536) as u16
 }
 
-// A triangle with the frame's lambda: the chord is 1 - lambda^2 of the semiperimeter, and the time
-// asks nothing of rho and sigma.
 fn place_of(frame: &[u8]) -> Place {
-    let lambda = float64::from_bits(records::word_at(frame, 0));
-    let triangle = Triangle {
-        lambda,
-        semiperimeter: 1.0,
-        chord: 1.0 - lambda * lambda,
-        rho: 0.0,
-        sigma: 1.0,
-    };
+    let triangle = time_bits::with_lambda(records::word_at(frame, 0));
     let k = records::signed_of(k_bits(frame));
     flight_time::time_at(triangle, k, turns_of(frame))
 }
