@@ -1,6 +1,7 @@
 //! Compares the proved code with the reference, bit for bit, and times both on the same operands.
 
 mod proved;
+mod sweeps;
 mod timing;
 
 use reference::places::{places, Place};
@@ -9,8 +10,9 @@ use reference::{root, time};
 use std::process::ExitCode;
 
 const USAGE: &str = "usage: bench time|compare
-  time      nanoseconds for each call of the proved code and of the reference, and the ratio
-  compare   the proved code against the reference on two million roots and one million places of no pattern";
+  time      how long each call of the proved code and of the reference takes, and the ratio
+  compare   the proved code against the reference on two million roots, one million places and 500 sweeps
+            of no pattern";
 
 /// What stands for a void place over the C interface.
 const VOID: u64 = u64::MAX;
@@ -20,9 +22,12 @@ fn main() -> ExitCode {
         "time" => {
             let root = time_roots();
             time_places(root);
+            sweeps::time();
             ExitCode::SUCCESS
         }
-        "compare" if compare_roots(2_000_000) && compare_places(1_000_000) => ExitCode::SUCCESS,
+        "compare" if compare_roots(2_000_000) && compare_places(1_000_000) && sweeps::compare(500) => {
+            ExitCode::SUCCESS
+        }
         "compare" => ExitCode::FAILURE,
         _ => {
             eprintln!("{USAGE}");
@@ -31,10 +36,10 @@ fn main() -> ExitCode {
     }
 }
 
-fn report(what: &str, count: usize, [ours, theirs]: [f64; 2], other: &str) {
+fn report(what: &str, count: usize, [ours, theirs]: [f64; 2], (unit, other): (&str, &str)) {
     println!("{what}, {count} operands, the best of {} rounds:", timing::ROUNDS);
-    println!("  proved     {ours:8.1} ns");
-    println!("  {other:<10} {theirs:8.1} ns");
+    println!("  proved     {ours:8.2} {unit}");
+    println!("  {other:<10} {theirs:8.2} {unit}");
     println!("  ratio      {:8.1}", ours / theirs);
 }
 
@@ -44,7 +49,7 @@ fn time_roots() -> f64 {
         root::operands().into_iter().filter(|&b| b != 0 && root::root_bits(b) != root::REFUSED).collect();
     let hardware = |b: u64| f64::from_bits(b).sqrt().to_bits();
     let times = timing::nanoseconds(&positive, [&proved::root_bits, &hardware]);
-    report("square root", positive.len(), times, "hardware");
+    report("square root", positive.len(), times, ("ns", "hardware"));
     times[0]
 }
 
@@ -57,7 +62,7 @@ fn time_places(root: f64) {
     let timed: Vec<Place> = places().into_iter().filter(|&p| reference_bits(p) != VOID).collect();
     let roots = timed.iter().map(|p| 4 + u64::from(p.m > 0)).sum::<u64>() as f64 / timed.len() as f64;
     let times = timing::nanoseconds(&timed, [&|p: Place| proved::time_bits(p.lambda, p.k, p.m), &reference_bits]);
-    report("time at a place", timed.len(), times, "reference");
+    report("time at a place", timed.len(), times, ("ns", "reference"));
     println!("  the roots  {:8.0} % of the proved time ({roots:.1} a place)", 100.0 * roots * root / times[0]);
 }
 

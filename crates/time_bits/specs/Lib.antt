@@ -1,1 +1,2 @@
 pub mod TimeBits
+pub mod SweepNumber

@@ -1,8 +1,11 @@
-// The time at a place from 64 bits to 64 bits, for programs in other languages and for comparisons.
+// The time at a place and the crossings of a sweep, from 64 bits to 64 bits, for programs in other
+// languages and for comparisons.
 ghost use mathlib.Core.Path.{_≡_};
+ghost use Rattle.time_bits.specs.SweepNumber.{walkNumber, sweepNumberOf};
 ghost use Rattle.time_bits.specs.TimeBits.{withLambda, timeBitsOf};
 use flight_time::Place;
 use geometry::Triangle;
+use sweep::Walk;
 
 // A triangle with the given lambda: the chord is 1 - lambda^2 of the semiperimeter, and the time asks
 // nothing of rho and sigma.
@@ -29,4 +32,25 @@ pub extern "C" fn lambert_time_bits(b: u64, k: i64, m: u16) -> u64
         Place::Timed(t) => float64::to_bits(t),
         Place::Void => 0xFFFF_FFFF_FFFF_FFFF,
     }
+}
+
+fn walk_number(walk: Walk) -> u64
+    ensures { λ r. ⌜ r ≡ walkNumber walk ⌝ }
+{
+    match walk {
+        Walk::AllTimed => 0,
+        Walk::SomeVoid => 16,
+        Walk::NinthFound => 32,
+    }
+}
+
+// How many crossings are listed for the lambda with the bits b, m whole revolutions and the wanted time
+// with the bits w; 16 more where some station is void, or 32 more where there is a ninth crossing.
+#[no_mangle]
+pub extern "C" fn lambert_sweep_number(b: u64, m: u16, w: u64) -> u64
+    ensures { λ r. ⌜ r ≡ sweepNumberOf b m w ⌝ }
+{
+    let found = sweep::find_crossings(with_lambda(b), m, float64::from_bits(w));
+    let walk = found.walk;
+    walk_number(walk) + found.count as u64
 }

@@ -1,0 +1,53 @@
+//! Whole sweeps, by the number that stands for one over the C interface.
+
+use crate::{proved, report, timing};
+use reference::random::Random;
+use reference::sweep::{crossings, Walk};
+use reference::time::{time_at, HIGHEST_TURNING, LOWEST, MOST_TURNS};
+
+/// A lambda, M and a wanted time.
+type Sweep = (f64, u16, f64);
+
+/// A lambda over (-1, 1), with the time of some place as the wanted one.
+fn sweep(m: u16, random: &mut Random) -> Sweep {
+    let lambda = 2.0 * random.fraction() - 1.0;
+    let k = LOWEST + random.below((HIGHEST_TURNING - LOWEST) as u64) as i64;
+    (lambda, m, time_at(lambda, k, m).unwrap_or(1.0))
+}
+
+fn ours((lambda, m, wanted): Sweep) -> u64 {
+    proved::sweep_number(lambda.to_bits(), m, wanted.to_bits())
+}
+
+fn theirs((lambda, m, wanted): Sweep) -> u64 {
+    let found = crossings(lambda, m, wanted);
+    let walk = match found.walk {
+        Walk::Timed => 0,
+        Walk::Void => 16,
+        Walk::Ninth => 32,
+    };
+    walk + found.brackets.len() as u64
+}
+
+pub fn time() {
+    let mut random = Random::new(12);
+    let without: Vec<Sweep> = (0..8).map(|_| sweep(0, &mut random)).collect();
+    let with: Vec<Sweep> = (1..=MOST_TURNS).map(|m| sweep(m, &mut random)).collect();
+    for (what, sweeps) in [("a sweep, M = 0", without), ("a sweep, M from 1 to 16", with)] {
+        let times = timing::nanoseconds(&sweeps, [&ours, &theirs]);
+        report(what, sweeps.len(), times.map(|t| t / 1e6), ("ms", "reference"));
+    }
+}
+
+pub fn compare(count: u64) -> bool {
+    let mut random = Random::new(13);
+    for i in 0..count {
+        let s = sweep((i % 18) as u16, &mut random);
+        if ours(s) != theirs(s) {
+            println!("{s:?}: proved {}, reference {}", ours(s), theirs(s));
+            return false;
+        }
+    }
+    println!("sweep: {count} sweeps, every number of crossings equal");
+    true
+}
