@@ -1,12 +1,13 @@
-//! The commands of the independent second program. Each writes vectors to standard output.
+//! The commands of the independent second program. Each writes to standard output.
 
-use reference::{entrance, flights, places, precision, questions, root, sweeps};
-use std::io::{BufWriter, Write};
+use reference::{entrance, flights, places, precision, questions, record, root, sweeps};
+use std::io::{BufWriter, Read, Write};
 use std::process::ExitCode;
 
 const USAGE: &str =
     "usage: reference root | entrance questions | entrance verdicts | time places | time times |
-       time precision | velocity flights | velocity velocities | sweep cases | sweep crossings
+       time precision | velocity flights | velocity velocities | sweep cases | sweep crossings |
+       solve
   root                 a line for each operand: its bits and the bits of its root, as hexadecimal digits
   entrance questions   a frame for each case: size and room, u16 little-endian, then the question's
                        bytes with zeros up to 120
@@ -19,7 +20,8 @@ const USAGE: &str =
   sweep cases          a frame for each case: the bits of lambda and of the wanted time u64, M as u64,
                        little-endian
   sweep crossings      a line for each case: the number of brackets; timed, void or ninth; then the
-                       lower and upper end of each as hexadecimal digits and its halvings";
+                       lower and upper end of each as hexadecimal digits and its halvings
+  solve                an answer or a refusal for each slot of 82 bytes on standard input";
 
 fn main() -> ExitCode {
     let words: Vec<String> = std::env::args().skip(1).collect();
@@ -35,6 +37,7 @@ fn main() -> ExitCode {
         ["velocity", "velocities"] => write_velocities(&mut out),
         ["sweep", "cases"] => write_sweeps(&mut out),
         ["sweep", "crossings"] => write_crossings(&mut out),
+        ["solve"] => write_replies(&mut out),
         _ => {
             eprintln!("{USAGE}");
             return ExitCode::from(2);
@@ -89,4 +92,13 @@ fn write_sweeps(out: &mut impl Write) -> std::io::Result<()> {
 
 fn write_crossings(out: &mut impl Write) -> std::io::Result<()> {
     sweeps::cases().iter().try_for_each(|case| writeln!(out, "{}", case.line()))
+}
+
+fn write_replies(out: &mut impl Write) -> std::io::Result<()> {
+    let mut input = Vec::new();
+    std::io::stdin().read_to_end(&mut input)?;
+    for reply in record::replies(&input) {
+        out.write_all(&reply)?;
+    }
+    Ok(())
 }

@@ -78,7 +78,7 @@ impl Question {
 }
 
 /// The `N` bytes from `at` on.
-fn part<const N: usize>(bytes: &[u8], at: usize) -> [u8; N] {
+pub fn part<const N: usize>(bytes: &[u8], at: usize) -> [u8; N] {
     std::array::from_fn(|i| bytes[at + i])
 }
 

@@ -1,0 +1,105 @@
+//! What is written for a question: an answer, kind 2, or a refusal, kind 3, little-endian, length first
+//! and then kind.
+
+use crate::entrance::ROOM;
+use crate::solve::{solve, Entry};
+use crate::wire::{part, Question, QUESTION_SIZE};
+
+pub const ANSWER_KIND: u16 = 2;
+pub const REFUSED_KIND: u16 = 3;
+
+/// The bytes before the first entry, the whole of a refusal, and the bytes of one entry. The length
+/// doesn't count its own four.
+pub const HEAD: usize = 16;
+pub const ENTRY: usize = 64;
+const LENGTH_SIZE: usize = 4;
+
+/// The fields of a record.
+#[derive(Clone, Debug, PartialEq)]
+pub struct Record {
+    pub job: u32,
+    pub revision: u32,
+    pub outcome: Result<Vec<Entry>, u16>,
+}
+
+impl Record {
+    /// The record of a slot of a question's bytes. Number 1 doesn't say whose question it is.
+    pub fn reply(slot: &[u8]) -> Record {
+        let outcome = solve(slot, ROOM);
+        let (job, revision) = match (Question::read(slot), &outcome) {
+            (None, _) | (_, Err(1)) => (0, 0),
+            (Some(q), _) => (q.job, q.revision),
+        };
+        Record { job, revision, outcome }
+    }
+
+    pub fn write(&self) -> Vec<u8> {
+        let (kind, last, entries) = match &self.outcome {
+            Ok(entries) => (ANSWER_KIND, entries.len() as u16, &entries[..]),
+            Err(number) => (REFUSED_KIND, *number, &[][..]),
+        };
+        let length = (HEAD - LENGTH_SIZE + ENTRY * entries.len()) as u32;
+        let mut bytes = length.to_le_bytes().to_vec();
+        bytes.extend(kind.to_le_bytes());
+        bytes.extend(self.job.to_le_bytes());
+        bytes.extend(self.revision.to_le_bytes());
+        bytes.extend(last.to_le_bytes());
+        entries.iter().for_each(|e| bytes.extend(write_entry(e)));
+        bytes
+    }
+
+    /// The fields of `bytes`; none where they are no record.
+    pub fn read(bytes: &[u8]) -> Option<Record> {
+        let (head, rest) = bytes.split_at_checked(HEAD)?;
+        let length = u32::from_le_bytes(part(head, 0));
+        let (kind, last) = (u16::from_le_bytes(part(head, 4)), u16::from_le_bytes(part(head, 14)));
+        let outcome = match kind {
+            ANSWER_KIND if rest.len() == ENTRY * usize::from(last) => {
+                Ok(rest.chunks_exact(ENTRY).map(read_entry).collect())
+            }
+            REFUSED_KIND if rest.is_empty() => Err(last),
+            _ => return None,
+        };
+        let (job, revision) = (u32::from_le_bytes(part(head, 6)), u32::from_le_bytes(part(head, 10)));
+        (length as usize == bytes.len() - LENGTH_SIZE).then_some(Record { job, revision, outcome })
+    }
+}
+
+fn write_entry(e: &Entry) -> Vec<u8> {
+    let mut bytes = e.lower.to_le_bytes().to_vec();
+    bytes.extend(e.halvings.to_le_bytes());
+    bytes.extend(u32::from(e.upper_chosen).to_le_bytes());
+    e.velocities.concat().iter().for_each(|x| bytes.extend(x.to_le_bytes()));
+    bytes
+}
+
+fn read_entry(bytes: &[u8]) -> Entry {
+    let float = |i: usize| f64::from_le_bytes(part(bytes, HEAD + 8 * i));
+    Entry {
+        lower: i64::from_le_bytes(part(bytes, 0)),
+        halvings: u32::from_le_bytes(part(bytes, 8)),
+        upper_chosen: u32::from_le_bytes(part(bytes, 12)) != 0,
+        velocities: [[float(0), float(1), float(2)], [float(3), float(4), float(5)]],
+    }
+}
+
+/// The records of all slots of the input; the last slot may be short.
+pub fn replies(input: &[u8]) -> impl Iterator<Item = Vec<u8>> + '_ {
+    input.chunks(QUESTION_SIZE).map(|slot| Record::reply(slot).write())
+}
+
+/// The bytes of each record by its length; what is too short for that is the last.
+pub fn split(mut bytes: &[u8]) -> Vec<&[u8]> {
+    let mut all = Vec::new();
+    while !bytes.is_empty() {
+        let length = bytes.first_chunk().map_or(u32::MAX, |b| u32::from_le_bytes(*b));
+        let size = (length as usize).saturating_add(LENGTH_SIZE).min(bytes.len());
+        let (record, rest) = bytes.split_at(size);
+        all.push(record);
+        bytes = rest;
+    }
+    all
+}
+
+#[cfg(test)]
+mod tests;
