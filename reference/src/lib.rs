@@ -5,6 +5,7 @@ pub mod angle;
 pub mod entrance;
 pub mod fixed;
 pub mod flights;
+pub mod kepler;
 pub mod places;
 pub mod precise;
 pub mod precision;
