@@ -2,6 +2,7 @@
 //! with the proved crates: where the two agree bit for bit, they agree for different reasons.
 
 pub mod angle;
+pub mod compare;
 pub mod entrance;
 pub mod fixed;
 pub mod flights;
@@ -14,6 +15,7 @@ pub mod random;
 pub mod record;
 pub mod root;
 pub mod solve;
+pub mod solver;
 pub mod sweep;
 pub mod sweeps;
 pub mod time;

@@ -1,13 +1,17 @@
 //! The commands of the independent second program. Each writes to standard output.
 
-use reference::{entrance, flights, places, precision, questions, record, root, sweeps};
+use reference::{
+    compare, entrance, flights, places, precision, questions, record, root, solver, sweeps,
+};
 use std::io::{BufWriter, Read, Write};
 use std::process::ExitCode;
 
 const USAGE: &str =
     "usage: reference root | entrance questions | entrance verdicts | time places | time times |
        time precision | velocity flights | velocity velocities | sweep cases | sweep crossings |
-       solve
+       solve | solver questions | solver answers | solver random N SEED |
+       solver missions N SEED | solver tally ANSWERS |
+       solver differ QUESTIONS ANSWERS ANSWERS
   root                 a line for each operand: its bits and the bits of its root, as hexadecimal digits
   entrance questions   a frame for each case: size and room, u16 little-endian, then the question's
                        bytes with zeros up to 120
@@ -21,7 +25,13 @@ const USAGE: &str =
                        little-endian
   sweep crossings      a line for each case: the number of brackets; timed, void or ninth; then the
                        lower and upper end of each as hexadecimal digits and its halvings
-  solve                an answer or a refusal for each slot of 82 bytes on standard input";
+  solve                an answer or a refusal for each slot of 82 bytes on standard input
+  solver questions     the slots of the list, 82 bytes each, and a short one at the end
+  solver answers       the records of these slots
+  solver random        N slots of fresh questions of every sort
+  solver missions      N slots of fresh questions as missions ask them
+  solver tally         how many records a file holds: answers by entries, refusals by number
+  solver differ        the first slot for which two files of records differ; fails if there is one";
 
 fn main() -> ExitCode {
     let words: Vec<String> = std::env::args().skip(1).collect();
@@ -38,6 +48,12 @@ fn main() -> ExitCode {
         ["sweep", "cases"] => write_sweeps(&mut out),
         ["sweep", "crossings"] => write_crossings(&mut out),
         ["solve"] => write_replies(&mut out),
+        ["solver", "questions"] => out.write_all(&solver::questions()),
+        ["solver", "answers"] => out.write_all(&solver::answers()),
+        ["solver", "random", n, seed] => write_fresh(&mut out, solver::random, n, seed),
+        ["solver", "missions", n, seed] => write_fresh(&mut out, solver::missions, n, seed),
+        ["solver", "tally", answers] => write_tally(&mut out, answers),
+        ["solver", "differ", asked, first, second] => write_difference(&mut out, asked, [first, second]),
         _ => {
             eprintln!("{USAGE}");
             return ExitCode::from(2);
@@ -101,4 +117,30 @@ fn write_replies(out: &mut impl Write) -> std::io::Result<()> {
         out.write_all(&reply)?;
     }
     Ok(())
+}
+
+fn write_fresh<S: AsRef<[u8]>, I: Iterator<Item = S>>(
+    out: &mut impl Write,
+    draw: fn(u64, u64) -> I,
+    n: &str,
+    seed: &str,
+) -> std::io::Result<()> {
+    let number = |word: &str| word.parse::<u64>().map_err(std::io::Error::other);
+    draw(number(n)?, number(seed)?).try_for_each(|slot| out.write_all(slot.as_ref()))
+}
+
+fn write_tally(out: &mut impl Write, answers: &str) -> std::io::Result<()> {
+    out.write_all(compare::tally(&std::fs::read(answers)?).as_bytes())
+}
+
+fn write_difference(out: &mut impl Write, asked: &str, files: [&str; 2]) -> std::io::Result<()> {
+    let [first, second] = files.map(std::fs::read);
+    match compare::difference(&std::fs::read(asked)?, [(files[0], &first?), (files[1], &second?)]) {
+        None => writeln!(out, "every byte equal"),
+        Some(told) => {
+            out.write_all(told.as_bytes())?;
+            out.flush()?;
+            Err(std::io::Error::other("the records differ"))
+        }
+    }
 }

@@ -6,7 +6,7 @@ mod edges;
 mod order;
 mod ordinary;
 mod patterns;
-mod shapes;
+pub(crate) mod shapes;
 mod thin;
 
 use crate::entrance::ROOM;
@@ -87,7 +87,7 @@ pub(crate) fn document() -> Question {
 }
 
 /// A question around the Earth, in km and s.
-fn earth() -> Question {
+pub(crate) fn earth() -> Question {
     Question {
         job: 0x0102_0304,
         revision: 0x0506_0708,

@@ -1,0 +1,13 @@
+//! Questions with one byte replaced.
+
+use super::Slot;
+use crate::random::Random;
+use crate::wire::{Question, FLOATS, QUESTION_SIZE};
+
+/// Half of the times in the head.
+pub fn one_byte(q: &Question, r: &mut Random) -> Slot {
+    let mut bytes = q.write();
+    let range = if r.below(2) == 0 { FLOATS } else { QUESTION_SIZE };
+    bytes[r.below(range as u64) as usize] = r.bits(8) as u8;
+    bytes
+}
