@@ -7,6 +7,7 @@ pub mod entrance;
 pub mod fixed;
 pub mod flights;
 pub mod kepler;
+pub mod landing;
 pub mod places;
 pub mod precise;
 pub mod precision;

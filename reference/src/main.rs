@@ -1,7 +1,7 @@
 //! The commands of the independent second program. Each writes to standard output.
 
 use reference::{
-    compare, entrance, flights, places, precision, questions, record, root, solver, sweeps,
+    compare, entrance, flights, landing, places, precision, questions, record, root, solver, sweeps,
 };
 use std::io::{BufWriter, Read, Write};
 use std::process::ExitCode;
@@ -11,7 +11,7 @@ const USAGE: &str =
        time precision | velocity flights | velocity velocities | sweep cases | sweep crossings |
        solve | solver questions | solver answers | solver random N SEED |
        solver missions N SEED | solver tally ANSWERS |
-       solver differ QUESTIONS ANSWERS ANSWERS
+       solver differ QUESTIONS ANSWERS ANSWERS | solver landing QUESTIONS ANSWERS
   root                 a line for each operand: its bits and the bits of its root, as hexadecimal digits
   entrance questions   a frame for each case: size and room, u16 little-endian, then the question's
                        bytes with zeros up to 120
@@ -31,7 +31,8 @@ const USAGE: &str =
   solver random        N slots of fresh questions of every sort
   solver missions      N slots of fresh questions as missions ask them
   solver tally         how many records a file holds: answers by entries, refusals by number
-  solver differ        the first slot for which two files of records differ; fails if there is one";
+  solver differ        the first slot for which two files of records differ; fails if there is one
+  solver landing       by how much the flights of a file of records miss the questions' positions";
 
 fn main() -> ExitCode {
     let words: Vec<String> = std::env::args().skip(1).collect();
@@ -54,6 +55,7 @@ fn main() -> ExitCode {
         ["solver", "missions", n, seed] => write_fresh(&mut out, solver::missions, n, seed),
         ["solver", "tally", answers] => write_tally(&mut out, answers),
         ["solver", "differ", asked, first, second] => write_difference(&mut out, asked, [first, second]),
+        ["solver", "landing", asked, answers] => write_landing(&mut out, asked, answers),
         _ => {
             eprintln!("{USAGE}");
             return ExitCode::from(2);
@@ -143,4 +145,8 @@ fn write_difference(out: &mut impl Write, asked: &str, files: [&str; 2]) -> std:
             Err(std::io::Error::other("the records differ"))
         }
     }
+}
+
+fn write_landing(out: &mut impl Write, asked: &str, answers: &str) -> std::io::Result<()> {
+    out.write_all(landing::report(&std::fs::read(asked)?, &std::fs::read(answers)?).as_bytes())
 }
