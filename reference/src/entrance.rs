@@ -63,7 +63,7 @@ fn check_ranges(q: &Question) -> Result<(), u16> {
     }
     for position in [q.position1, q.position2] {
         let radius = square(position).sqrt();
-        if radius < 1.0 || radius > TWO_40 {
+        if !(1.0..=TWO_40).contains(&radius) {
             return Err(3);
         }
     }

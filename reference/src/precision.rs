@@ -20,7 +20,10 @@ struct Region {
     x: [f64; 2],
 }
 
-const LAMBDAS: [(&str, fn(f64) -> bool); 6] = [
+/// A range of lambda, by its name.
+type Range = (&'static str, fn(f64) -> bool);
+
+const LAMBDAS: [Range; 6] = [
     ("|L| <= 0.9", |l| l.abs() <= 0.9),
     ("-0.9996 to -0.9", |l| -0.9996 < l && l < -0.9),
     ("0.9 to 0.9996", |l| 0.9 < l && l < 0.9996),

@@ -41,7 +41,7 @@ pub fn outside(r: &mut Random) -> Vec<Place> {
     let ends: Vec<i64> = ends().collect();
     let turns: Vec<u16> = turns().collect();
     let place = |i: u32| {
-        let bits = if i % 2 == 0 { r.word() } else { lambda(r).to_bits() };
+        let bits = if i.is_multiple_of(2) { r.word() } else { lambda(r).to_bits() };
         let k = match r.below(3) {
             0 => ends[r.below(ends.len() as u64) as usize],
             1 => some_k(0, r),

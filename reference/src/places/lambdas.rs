@@ -44,7 +44,7 @@ fn inside() -> Vec<u64> {
 /// Sizes of 1 and above, infinity and NaN.
 fn outside() -> Vec<u64> {
     let one = 1f64.to_bits();
-    let nan = [INFINITY + 1, INFINITY | QUIET, INFINITY | QUIET | 1, SIGN - 1, INFINITY | QUIET - 1];
+    let nan = [INFINITY + 1, INFINITY | QUIET, INFINITY | QUIET | 1, SIGN - 1, INFINITY | (QUIET - 1)];
     let mut all = vec![one, one + 1, one + 2, 2f64.to_bits(), 2f64.to_bits() - 1, INFINITY - 1, INFINITY];
     all.extend(nan);
     all

@@ -46,7 +46,7 @@ fn the_document_s_cases() {
 
 /// The questions of the list that numbers 1 to 7 let pass.
 fn past_seven() -> Vec<Question> {
-    let pass = |case: &Case| judge(&case.bytes, case.room.into()).err().map_or(true, |n| n > 7);
+    let pass = |case: &Case| judge(&case.bytes, case.room.into()).err().is_none_or(|n| n > 7);
     cases().iter().filter(|case| pass(case)).map(|case| Question::read(&case.bytes).unwrap()).collect()
 }
 
