@@ -6,7 +6,7 @@ use mathlib.Core.Bool.{Bool, true, false, cond, true≢false, false≢true}
 use mathlib.Core.List.{List, [], _∷_, map}
 use native.Mathlib.Nat.{le-of-suc-le-suc, le-of-eq, le-of-lt, le-trans, lt-of-le-of-lt, lt-of-not-le, lt-irrefl, zero-lt-suc}
 use native.Mathlib.Omega.{arith}
-use borrow.Author.Tests.{eqb-true, eqb-false, eq-eqb, ne-eqb}
+use borrow.Author.Tests.{eqb-true, eqb-false, eq-eqb, ne-eqb, ltb-false}
 use lib.Dec.{eqb, lit<, lit≤}
 use lib.ListN.{length}
 use Rattle.geometry.specs.Triangles.{shapeOf}
@@ -22,7 +22,7 @@ use Rattle.entrance.specs.declared.Judged.{Judged}
 use Rattle.entrance.specs.declared.Judged.the-variants.{Refused, Accepted}
 
 -- ---- lists whose numbers rise, from above `low`
-data Rising : ℕ → List Check → Type 0 where
+pub data Rising : ℕ → List Check → Type 0 where
   none : {low : ℕ} → Rising low []
   more : {low : ℕ} {c : Check} {cs : List Check} → low < c .number → Rising (c .number) cs → Rising low (c ∷ cs)
 
@@ -48,17 +48,17 @@ later : (low : ℕ) (cs : List Check) (n : ℕ) → Rising low cs → appliesIn 
 later low cs n r e = lt-of-not-le (λ (h : n ≤ low). true≢false (sym e ∙ below low cs n r h))
 
 -- ---- lists whose numbers are at most `high`: a larger number has no check
-data UpTo (high : ℕ) : List Check → Type 0 where
+pub data UpTo (high : ℕ) : List Check → Type 0 where
   none : UpTo high []
   more : {c : Check} {cs : List Check} → c .number ≤ high → UpTo high cs → UpTo high (c ∷ cs)
 
-above : (high : ℕ) (cs : List Check) (n : ℕ) → UpTo high cs → high < n → appliesIn cs n ≡ false
+pub above : (high : ℕ) (cs : List Check) (n : ℕ) → UpTo high cs → high < n → appliesIn cs n ≡ false
 unfolding appliesIn
 above high [] n none h = refl
 above high (c ∷ cs) n (more l r) h = past-head c cs n (λ (e : c .number ≡ n). omega arith) ∙ above high cs n r h
 
 -- ---- the first check that applies
-first-is : (low : ℕ) (cs : List Check) (n : ℕ) → Rising low cs → 0 < n → firstOf cs ≡ n → First (appliesIn cs) n
+pub first-is : (low : ℕ) (cs : List Check) (n : ℕ) → Rising low cs → 0 < n → firstOf cs ≡ n → First (appliesIn cs) n
 unfolding firstOf
 first-is low [] n none p e = absurd (lt-irrefl 0 (subst (λ (x : ℕ). 0 < x) (sym e) p))
 first-is low (c ∷ cs) n (more l r) p e = by (λ (f : firstOf cs ≡ n). first-is (c .number) cs n r p f) (c .applies) refl e
@@ -80,7 +80,7 @@ first-is low (c ∷ cs) n (more l r) p e = by (λ (f : firstOf cs ≡ n). first-
         earlier m true k f′ = at-head c cs m (eqb-true (c .number) m k) ∙ h
         earlier m false k f′ = past-head c cs m (eqb-false (c .number) m k) ∙ f′
 
-is-first : (low : ℕ) (cs : List Check) (n : ℕ) → Rising low cs → First (appliesIn cs) n → firstOf cs ≡ n
+pub is-first : (low : ℕ) (cs : List Check) (n : ℕ) → Rising low cs → First (appliesIn cs) n → firstOf cs ≡ n
 unfolding firstOf appliesIn
 is-first low [] n none f = absurd (false≢true (f .own))
 is-first low (c ∷ cs) n (more l r) f = by (λ (g : First (appliesIn cs) n). is-first (c .number) cs n r g) (eqb (c .number) n) refl
@@ -103,14 +103,14 @@ is-first low (c ∷ cs) n (more l r) f = by (λ (g : First (appliesIn cs) n). is
         rest m false e g = sym (past-head c cs m (eqb-false (c .number) m e)) ∙ g
 
 -- no check applies
-none-first : (low : ℕ) (cs : List Check) → Rising low cs → ((n : ℕ) → appliesIn cs n ≡ false) → firstOf cs ≡ 0
+pub none-first : (low : ℕ) (cs : List Check) → Rising low cs → ((n : ℕ) → appliesIn cs n ≡ false) → firstOf cs ≡ 0
 none-first low cs r f = by (firstOf cs) refl
   where
     by : (n : ℕ) → firstOf cs ≡ n → n ≡ 0
     by zero e = refl
     by (suc n) e = absurd (false≢true (sym (f (suc n)) ∙ first-is low cs (suc n) r (zero-lt-suc n) e .own))
 
-first-none : (low : ℕ) (cs : List Check) → Rising low cs → firstOf cs ≡ 0 → (n : ℕ) → appliesIn cs n ≡ false
+pub first-none : (low : ℕ) (cs : List Check) → Rising low cs → firstOf cs ≡ 0 → (n : ℕ) → appliesIn cs n ≡ false
 unfolding firstOf appliesIn
 first-none low [] none e n = refl
 first-none low (c ∷ cs) (more l r) e n = by (λ (f : firstOf cs ≡ 0). first-none (c .number) cs r f n) (c .applies) refl e
@@ -177,6 +177,24 @@ module _ (s : List ℕ) (room : ℕ) where
     only = λ e. first-none 0 (checks (length s) room q g) rising (no-number (firstOf (checks (length s) room q g)) (problemOf q g) e);
     always = λ f. accepts (firstOf (checks (length s) room q g)) (problemOf q g) (none-first 0 (checks (length s) room q g) rising f);
   }
+
+  pub accepted-when : firstOf (checks (length s) room q g) ≡ 0 → judgeOf s room ≡ Accepted (problemOf q g)
+  unfolding judgeOf
+  accepted-when e = accepts (firstOf (checks (length s) room q g)) (problemOf q g) e
+
+  -- an accepted problem is the question's own, and then the answer buffer has room
+  pub accepted-problem : (p : Problem) → judgeOf s room ≡ Accepted p → p ≡ problemOf q g
+  unfolding judgeOf
+  accepted-problem p e = by (eqb (firstOf (checks (length s) room q g)) 0) e
+    where
+      by : (t : Bool) → cond t (Accepted (problemOf q g)) (Refused (firstOf (checks (length s) room q g))) ≡ Accepted p → p ≡ problemOf q g
+      by true f = cc
+      by false f = cc
+
+  pub accepted-room : (p : Problem) → judgeOf s room ≡ Accepted p → 528 ≤ room
+  unfolding conditionOf appliesIn checks smallBuffer
+  accepted-room p e =
+      ltb-false room 528 (accepted-exactly .only (e ∙ ap Accepted (accepted-problem p e)) 7)
 
   -- what the ten conditions are, in the table's order
   pub the-conditions : map (conditionOf s room) (1 ∷ 2 ∷ 3 ∷ 4 ∷ 5 ∷ 6 ∷ 7 ∷ 8 ∷ 9 ∷ 10 ∷ [])

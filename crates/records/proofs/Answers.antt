@@ -11,7 +11,7 @@ use Rattle.records.specs.declared.Entry.{Entry}
 use Rattle.records.proofs.Sizes.{head-length, entry-length}
 use Rattle.records.proofs.RoundTrip.{head-back, entry-back}
 
-entries-length : (es : List Entry) → length (entriesBytes es) ≡ 64 * length es
+pub entries-length : (es : List Entry) → length (entriesBytes es) ≡ 64 * length es
 unfolding entriesBytes
 entries-length [] = refl
 entries-length (e ∷ es) = length-append (entryBytes e) (entriesBytes es) ∙ sum (length (entryBytes e)) (length (entriesBytes es)) (length es) (entry-length e) (entries-length es)
@@ -19,7 +19,7 @@ entries-length (e ∷ es) = length-append (entryBytes e) (entriesBytes es) ∙ s
     sum : (a b n : ℕ) → a ≡ 64 → b ≡ 64 * n → a + b ≡ 64 * suc n
     sum a b n f g = omega arith
 
-entries-append : (xs ys : List Entry) → entriesBytes (xs ++ ys) ≡ entriesBytes xs ++ entriesBytes ys
+pub entries-append : (xs ys : List Entry) → entriesBytes (xs ++ ys) ≡ entriesBytes xs ++ entriesBytes ys
 unfolding entriesBytes
 entries-append [] ys = refl
 entries-append (e ∷ xs) ys = ap (λ (l : List ℕ). entryBytes e ++ l) (entries-append xs ys) ∙ sym (append-assoc (entryBytes e) (entriesBytes xs) (entriesBytes ys))

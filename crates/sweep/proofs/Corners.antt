@@ -32,7 +32,7 @@ no-side e p q = absurd (let z : _≡_ {A = ℕ} 0 1 = cc (e, p, q) in omega (ari
 other-side : {P : Type 0} → Below ≡ NotBelow → P
 other-side e = absurd (let z : _≡_ {A = ℕ} 0 1 = cc e in omega (arith, z))
 
-no-place : {P : Type 0} {t : Float} → Void ≡ Timed t → P
+pub no-place : {P : Type 0} {t : Float} → Void ≡ Timed t → P
 no-place e = absurd (let z : _≡_ {A = ℕ} 0 1 = cc e in omega (arith, z))
 
 below-by : (t w : Float) (b : Bool) → (t ≺ w) ≡ b → cond b Below NotBelow ≡ Below → TimedBelow (Timed t) w

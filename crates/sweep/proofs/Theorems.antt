@@ -8,7 +8,7 @@ use native.Mathlib.Omega.{arith}
 use borrow.Author.Tests.{ltb-true, ltb-false, lt-ltb, le-ltb, ne-eqb}
 use lib.Dec.{ltb}
 use lib.ListN.{length, getD, take, replicate, length-map, length-take, length-append, length-replicate, List·getD-append, List·getD-map, List·getD-eq-default}
-use lib.Seq.{getD-take}
+use lib.Seq.{getD-take, take-all, take-append-seam}
 use native.Mathlib.Nat.{add-zero, add-assoc}
 use native.Mathlib.Numerals.{add-one}
 use lib.IntN.{ℤ, pos, negℤ, _+ℤ_, +ℤ-assoc, +ℤ-idr}
@@ -116,7 +116,7 @@ walk-timed true void e = (cc, cc)
 walk-timed false true e = (refl, cc)
 walk-timed false false e = (refl, refl)
 
-false-by : (b : Bool) → (b ≡ true → ⊥) → b ≡ false
+pub false-by : (b : Bool) → (b ≡ true → ⊥) → b ≡ false
 false-by true f = absurd (f refl)
 false-by false f = refl
 
@@ -225,6 +225,13 @@ module _ (σ : ℤ → Side) (last : ℕ) where
       ∙ any-default (brackets σ last) e blank (bracketOf σ 0) some
       ∙ List·getD-map (bracketOf σ) (crossings σ last) e 0
 
+  pub all-listed : length (crossings σ last) ≤ 8 → take (sweepOf σ last .count) (sweepOf σ last .list) ≡ brackets σ last
+  unfolding sweepOf reported
+  all-listed h =
+      let few : length (brackets σ last) ≤ 8 = omega (arith, length-is, h) in
+      let count : min 8 (length (brackets σ last)) ≡ length (brackets σ last) = omega (arith, few) in
+      rw (take-all 8 (brackets σ last) few, count) (take-append-seam (brackets σ last) (replicate (8 - length (brackets σ last)) blank))
+
   pub unused : (e : ℕ) → sweepOf σ last .count ≤ e → getD (sweepOf σ last .list) e blank ≡ blank
   unfolding sweepOf reported
   unused e h = padded (take 8 (brackets σ last)) (8 - length (take 8 (brackets σ last))) e (rw (length-take 8 (brackets σ last)) h)
@@ -263,11 +270,11 @@ module _ (σ : ℤ → Side) (last : ℕ) where
   )
 
   -- some station is void: exactly that, over all stations, wherever there is no ninth crossing
-  void-at : (i : ℕ) → i ≤ last → isUnknown (σ (stationOf i)) ≡ true → someVoid σ last ≡ true
+  pub void-at : (i : ℕ) → i ≤ last → isUnknown (σ (stationOf i)) ≡ true → someVoid σ last ≡ true
   unfolding someVoid
   void-at i h e = some-yes (λ j. isUnknown (σ (stationOf j))) i (upTo (last + 1)) (up-listed i (last + 1) (omega arith)) e
 
-  at-void : someVoid σ last ≡ true → (i : ℕ) × ((i ≤ last) × (isUnknown (σ (stationOf i)) ≡ true))
+  pub at-void : someVoid σ last ≡ true → (i : ℕ) × ((i ≤ last) × (isUnknown (σ (stationOf i)) ≡ true))
   unfolding someVoid
   at-void e =
       let f = some-found (λ j. isUnknown (σ (stationOf j))) (upTo (last + 1)) e in
