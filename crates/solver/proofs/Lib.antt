@@ -1,0 +1,9 @@
+pub mod BracketLists
+pub mod Written
+pub mod Numbering
+pub mod Recorded
+pub mod RowFacts
+pub mod Answered
+pub mod Demand
+pub mod WorkedCases
+pub mod NeverBoth

@@ -1,0 +1,5 @@
+pub mod Entries
+pub mod Table
+pub mod Internals
+pub mod Solve
+pub mod Demand
