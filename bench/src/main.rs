@@ -1,6 +1,7 @@
 //! Compares the proved code with the reference, bit for bit, and times both on the same operands.
 
 mod proved;
+mod questions;
 mod sweeps;
 mod timing;
 
@@ -9,10 +10,11 @@ use reference::random::Random;
 use reference::{root, time};
 use std::process::ExitCode;
 
-const USAGE: &str = "usage: bench time|compare
+const USAGE: &str = "usage: bench time|compare|questions
   time      how long each call of the proved code and of the reference takes, and the ratio
   compare   the proved code against the reference on two million roots, one million places and 500 sweeps
-            of no pattern";
+            of no pattern
+  questions how many whole questions a second the proved program and the reference answer, and its memory";
 
 /// What stands for a void place over the C interface.
 const VOID: u64 = u64::MAX;
@@ -29,6 +31,13 @@ fn main() -> ExitCode {
             ExitCode::SUCCESS
         }
         "compare" => ExitCode::FAILURE,
+        "questions" => match questions::time() {
+            Ok(()) => ExitCode::SUCCESS,
+            Err(e) => {
+                eprintln!("bench: {e}");
+                ExitCode::FAILURE
+            }
+        },
         _ => {
             eprintln!("{USAGE}");
             ExitCode::from(2)
