@@ -20,13 +20,13 @@ use Rattle.entrance.specs.declared.Judged.{Judged}
 use Rattle.entrance.specs.declared.Judged.the-variants.{Refused, Accepted}
 
 -- ---- numbers, by their bits: 2 ^ -11 is TINY, 2 ^ 40 is P40, and P40-next is the next f64 above it
-abbrev HALF : ℕ
+abbrev pub HALF : ℕ
 HALF = 0x3FE0_0000_0000_0000
 
-abbrev ONE : ℕ
+abbrev pub ONE : ℕ
 ONE = 0x3FF0_0000_0000_0000
 
-abbrev TWO : ℕ
+abbrev pub TWO : ℕ
 TWO = 0x4000_0000_0000_0000
 
 abbrev TINY : ℕ
@@ -57,11 +57,11 @@ abbrev NAN : ℕ
 NAN = 0x7FF8_0000_0000_0000
 
 -- a vector in the plane
-abbrev flat : ℕ → ℕ → Vector
+abbrev pub flat : ℕ → ℕ → Vector
 flat x y = record { x = bits x; y = bits y; z = bits 0 }
 
 -- the bytes of a question of job 7 (or another) and revision 2
-asked : ℕ → ℕ → ℕ → ℕ → Vector → Vector → ℕ → ℕ → List ℕ
+unfoldable pub asked : ℕ → ℕ → ℕ → ℕ → Vector → Vector → ℕ → ℕ → List ℕ
 asked job m way spare p1 p2 mu time =
     questionBytes (record { length = 78; kind = 1; job = job; revision = 2; revolutions = m; way = way; spare = spare; r1 = p1; r2 = p2; mu = bits mu; time = bits time })
 

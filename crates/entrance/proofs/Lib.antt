@@ -1,2 +1,2 @@
 pub mod Table
-mod ClosedCases
+pub mod ClosedCases

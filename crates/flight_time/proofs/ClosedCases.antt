@@ -23,7 +23,7 @@ pub row : ℕ → ℤ → ℕ → Place → Row
 row L k m p = record { L = L; k = k; m = m; place = p }
 
 -- a triangle with the given L: c/s is 1 − L²; ρ and σ don't count here
-pub withLambda : ℕ → Triangle
+unfoldable pub withLambda : ℕ → Triangle
 withLambda L = record { lambda = bits L; semiperimeter = 1F; chord = 1F ⊖ bits L ⊗ bits L; rho = 0F; sigma = 1F }
 
 -- the ends of the ranges: -2^32 + 2^20 and the k below it, and so on

@@ -1,3 +1,3 @@
 mod Ratios
 pub mod Laws
-mod ClosedCases
+pub mod ClosedCases

@@ -5,7 +5,7 @@ use Prim.Native.Nat.{ℕ, _^_}
 use lib.IntN.{ℤ, pos}
 use lib.Ieee.{add, sub, mul, div, round, units, odd, size, neg, lt, le, eq, ofBits, ofInt, toBits}
 use lib.ListN.{length, take, replicate}
-use Rattle.float64.specs.Notation.{_⊖_, _⊗_, bits, 0F, 1F}
+use Rattle.float64.specs.Notation.{bits}
 use Rattle.float64.specs.Value.{finiteOf, magnitudeOf}
 use Rattle.float64.specs.Root.{rootOf}
 use Rattle.float64.specs.declared.Root.{Root}
@@ -14,13 +14,14 @@ use Rattle.float64.specs.declared.Vector.{Vector}
 use Rattle.geometry.specs.Vectors.{normSquared, difference, cross, orNan, rootOrNan}
 use Rattle.geometry.specs.Triangles.{semiperimeterOf, atLeastZero, lambdaOf, triangleOf, shapeOf}
 use Rattle.geometry.specs.Conditions.{outsideOf, radiusOutside, noPlane, shortChord, flatTriangle}
-use Rattle.geometry.specs.declared.Triangle.{Triangle}
 use Rattle.records.specs.Bytes.{bytesOf, numberAt}
 use Rattle.records.specs.Layout.{encode, questionFields}
 use Rattle.records.specs.Records.{questionOf, questionBytes}
 use Rattle.entrance.specs.Conditions.{malformed, farOff, positionFar, positionsFar, muOutside, timeOutside, manyRevolutions, smallBuffer}
 use Rattle.entrance.specs.Judge.{checks, longWay, firstOf, judgeOf}
 use Rattle.entrance.proofs.Table.{accepted-exactly, accepted-when}
+use Rattle.entrance.proofs.ClosedCases.{HALF, ONE, TWO, flat, asked}
+use Rattle.flight_time.proofs.ClosedCases.{withLambda}
 use Rattle.flight_time.specs.Steps.{outsideRange, xOf, uOf, yOf, etaOf, c1Of, nextC, halvedOf, ratioOf, seriesFrom, seriesOf, s4Of, backOf, climbedOf, directOf, revolvedOf}
 use Rattle.flight_time.specs.Time.{timeOf}
 use Rattle.flight_time.specs.declared.Place.{Place}
@@ -39,33 +40,14 @@ pub data Result : Type 0 where
   aPlace : Place → Result
   aNumber : ℕ → Result
 
--- a triangle with the given L: c/s is 1 − L²; ρ and σ don't count here
-withLambda : ℕ → Triangle
-withLambda L = record { lambda = bits L; semiperimeter = 1F; chord = 1F ⊖ bits L ⊗ bits L; rho = 0F; sigma = 1F }
-
 pub resultOf : Case → Result
 resultOf (root b) = aRoot (rootOf (bits b))
 resultOf (time L k m) = aPlace (timeOf (withLambda L) k m)
 resultOf (question s) = aNumber (numberGiven (solveOf s (replicate longest 0) .outcome))
 
--- ---- numbers by their bits
-abbrev HALF : ℕ
-HALF = 0x3FE0_0000_0000_0000
-
-abbrev ONE : ℕ
-ONE = 0x3FF0_0000_0000_0000
-
-abbrev TWO : ℕ
-TWO = 0x4000_0000_0000_0000
-
--- a vector along x and y
-abbrev flat : ℕ → ℕ → Vector
-flat x y = record { x = bits x; y = bits y; z = bits 0 }
-
 -- the bytes of a question like 01's worked one, with another job, M, positions or mu
-asked : ℕ → ℕ → Vector → Vector → ℕ → List ℕ
-asked job m p1 p2 mu =
-    questionBytes (record { length = 78; kind = 1; job = job; revision = 2; revolutions = m; way = 0; spare = 0; r1 = p1; r2 = p2; mu = bits mu; time = bits ONE })
+like : ℕ → ℕ → Vector → Vector → ℕ → List ℕ
+like job m p1 p2 mu = asked job m 0 0 p1 p2 mu ONE
 
 pub record Row : Type 0 where
   pub case : Case
@@ -89,24 +71,24 @@ rows =
     ∷ (time 0 (pos (2 ^ 32)) 1 gives aPlace Void)
     ∷ (time ONE (pos 0) 0 gives aPlace Void)
     -- refusals: size 81, job 0, radius 0.5, M = 17, mu 0.5, r2 = 2·r1
-    ∷ (question (take 81 (asked 7 1 (flat ONE 0) (flat 0 ONE) ONE)) gives aNumber 1)
-    ∷ (question (asked 0 1 (flat ONE 0) (flat 0 ONE) ONE) gives aNumber 1)
-    ∷ (question (asked 7 1 (flat HALF 0) (flat 0 ONE) ONE) gives aNumber 3)
-    ∷ (question (asked 7 17 (flat ONE 0) (flat 0 ONE) ONE) gives aNumber 6)
-    ∷ (question (asked 7 1 (flat ONE 0) (flat 0 ONE) HALF) gives aNumber 4)
-    ∷ (question (asked 7 1 (flat ONE 0) (flat TWO 0) ONE) gives aNumber 8)
+    ∷ (question (take 81 (like 7 1 (flat ONE 0) (flat 0 ONE) ONE)) gives aNumber 1)
+    ∷ (question (like 0 1 (flat ONE 0) (flat 0 ONE) ONE) gives aNumber 1)
+    ∷ (question (like 7 1 (flat HALF 0) (flat 0 ONE) ONE) gives aNumber 3)
+    ∷ (question (like 7 17 (flat ONE 0) (flat 0 ONE) ONE) gives aNumber 6)
+    ∷ (question (like 7 1 (flat ONE 0) (flat 0 ONE) HALF) gives aNumber 4)
+    ∷ (question (like 7 1 (flat ONE 0) (flat TWO 0) ONE) gives aNumber 8)
     ∷ []
 
 pub each-row-holds : map (λ (r : Row). resultOf (r .case)) rows ≡ map (λ (r : Row). r .result) rows
-unfolding rows _gives_ resultOf withLambda asked solveOf judgeOf checks firstOf malformed farOff positionFar positionsFar muOutside timeOutside manyRevolutions smallBuffer outsideOf radiusOutside noPlane shortChord flatTriangle semiperimeterOf atLeastZero lambdaOf triangleOf shapeOf normSquared difference cross orNan rootOrNan questionOf questionBytes encode questionFields bytesOf numberAt rootOf magnitudeOf finiteOf timeOf outsideRange xOf uOf yOf etaOf c1Of nextC halvedOf ratioOf seriesFrom seriesOf s4Of backOf climbedOf directOf revolvedOf add sub mul div round units odd size neg lt le eq ofBits ofInt toBits
+unfolding rows _gives_ resultOf withLambda like asked solveOf judgeOf checks firstOf malformed farOff positionFar positionsFar muOutside timeOutside manyRevolutions smallBuffer outsideOf radiusOutside noPlane shortChord flatTriangle semiperimeterOf atLeastZero lambdaOf triangleOf shapeOf normSquared difference cross orNan rootOrNan questionOf questionBytes encode questionFields bytesOf numberAt rootOf magnitudeOf finiteOf timeOf outsideRange xOf uOf yOf etaOf c1Of nextC halvedOf ratioOf seriesFrom seriesOf s4Of backOf climbedOf directOf revolvedOf add sub mul div round units odd size neg lt le eq ofBits ofInt toBits
 each-row-holds = refl
 
 -- a question past the entrance checks: 01's worked one, so that what is shown of such questions is shown of some
 pub worked : List ℕ
-worked = asked 7 1 (flat ONE 0) (flat 0 ONE) ONE
+worked = like 7 1 (flat ONE 0) (flat 0 ONE) ONE
 
 no-fault : firstOf (let q = questionOf worked in checks (length worked) longest q (shapeOf (q .r1) (q .r2) (longWay q))) ≡ 0
-unfolding worked asked checks firstOf malformed farOff positionFar positionsFar muOutside timeOutside manyRevolutions smallBuffer outsideOf radiusOutside noPlane shortChord flatTriangle semiperimeterOf atLeastZero lambdaOf triangleOf shapeOf normSquared difference cross orNan rootOrNan questionOf questionBytes encode questionFields bytesOf numberAt rootOf magnitudeOf finiteOf add sub mul div neg lt le eq ofBits toBits
+unfolding worked like asked checks firstOf malformed farOff positionFar positionsFar muOutside timeOutside manyRevolutions smallBuffer outsideOf radiusOutside noPlane shortChord flatTriangle semiperimeterOf atLeastZero lambdaOf triangleOf shapeOf normSquared difference cross orNan rootOrNan questionOf questionBytes encode questionFields bytesOf numberAt rootOf magnitudeOf finiteOf add sub mul div neg lt le eq ofBits toBits
 no-fault = refl
 
 pub worked-past : Past worked longest
