@@ -1,0 +1,59 @@
+//! The command for people over the proved solver. It computes no transfer itself: every record comes from `proved`.
+#![deny(unsafe_code)]
+
+mod help;
+mod options;
+#[allow(unsafe_code)]
+mod proved;
+mod solve;
+mod stop;
+mod streams;
+mod wire;
+
+use std::process::ExitCode;
+use stop::Stop;
+
+/// A command's name, its help and what runs it.
+type Command = (&'static str, &'static str, fn(&[String]) -> Result<u8, Stop>);
+
+const COMMANDS: [Command; 1] = [("solve", help::SOLVE, solve::run)];
+
+fn main() -> ExitCode {
+    let told = words().and_then(|words| run(&words));
+    match told {
+        Ok(status) => ExitCode::from(status),
+        Err(Stop::PipeClosed) => ExitCode::SUCCESS,
+        Err(Stop::Said(words)) => {
+            stop::tell(&words);
+            ExitCode::from(2)
+        }
+    }
+}
+
+fn words() -> Result<Vec<String>, Stop> {
+    let words = std::env::args_os().skip(1).map(|word| word.into_string());
+    words.collect::<Result<_, _>>().or_else(|word| Stop::said(format!("{word:?} is no UTF-8 text")))
+}
+
+fn run(words: &[String]) -> Result<u8, Stop> {
+    let Some((first, rest)) = words.split_first() else {
+        return Stop::said("which command? 'lambert-cli --help' lists them");
+    };
+    if first == "--help" || first == "-h" {
+        return say(help::WHOLE);
+    }
+    let Some((_, help, command)) = COMMANDS.iter().find(|(name, ..)| name == first) else {
+        return Stop::said(format!("no command {first}; 'lambert-cli --help' lists them"));
+    };
+    if rest.iter().any(|word| word == "--help" || word == "-h") {
+        return say(help);
+    }
+    command(rest)
+}
+
+fn say(text: &str) -> Result<u8, Stop> {
+    let mut output = streams::Output::open(None, None)?;
+    output.put(text.as_bytes())?;
+    output.flush()?;
+    Ok(0)
+}

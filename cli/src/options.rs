@@ -1,0 +1,91 @@
+//! The words of a command: options, each at most once, and names of files.
+
+use crate::stop::Stop;
+
+pub struct Options {
+    values: Vec<(&'static str, String)>,
+    pub files: Vec<String>,
+}
+
+impl Options {
+    /// Reads the words. `flags` stand alone; each of `valued` takes the word after it, or what follows its `=`.
+    pub fn read(words: &[String], flags: &[&'static str], valued: &[&'static str]) -> Result<Options, Stop> {
+        let mut options = Options { values: Vec::new(), files: Vec::new() };
+        let mut words = words.iter();
+        while let Some(word) = words.next() {
+            let (name, joined) = match word.split_once('=') {
+                Some((name, value)) if name.starts_with("--") => (name, Some(value.to_string())),
+                _ => (word.as_str(), None),
+            };
+            if let Some(flag) = flags.iter().find(|flag| **flag == name && joined.is_none()) {
+                options.put(flag, String::new())?;
+            } else if let Some(option) = valued.iter().find(|option| **option == name) {
+                match joined.or_else(|| words.next().cloned()) {
+                    Some(value) => options.put(option, value)?,
+                    None => return Stop::said(format!("{name} needs a value after it")),
+                }
+            } else if word.starts_with('-') && word != "-" {
+                return Stop::said(format!("unknown option {word}"));
+            } else {
+                options.files.push(word.clone());
+            }
+        }
+        Ok(options)
+    }
+
+    fn put(&mut self, name: &'static str, value: String) -> Result<(), Stop> {
+        if self.has(name) {
+            return Stop::said(format!("{name} is given twice"));
+        }
+        self.values.push((name, value));
+        Ok(())
+    }
+
+    pub fn has(&self, name: &str) -> bool {
+        self.value(name).is_some()
+    }
+
+    pub fn value(&self, name: &str) -> Option<&str> {
+        self.values.iter().find(|(option, _)| *option == name).map(|(_, value)| value.as_str())
+    }
+
+    /// The one file that a command may be given.
+    pub fn file(&self) -> Result<Option<&str>, Stop> {
+        match &self.files[..] {
+            [] => Ok(None),
+            [name] => Ok(Some(name)),
+            [_, second, ..] => Stop::said(format!("one file at most, but {second} is a second one")),
+        }
+    }
+}
+
+#[cfg(test)]
+mod tests {
+    use super::*;
+
+    fn read(words: &[&str]) -> Result<Options, String> {
+        let words: Vec<String> = words.iter().map(|word| word.to_string()).collect();
+        Options::read(&words, &["--strict"], &["--jobs", "-o"]).map_err(|stop| match stop {
+            Stop::Said(words) => words,
+            Stop::PipeClosed => "pipe".into(),
+        })
+    }
+
+    #[test]
+    fn values_and_files_are_told_apart() {
+        let options = read(&["--jobs", "-1", "-", "--strict", "-o", "out"]).expect("good words");
+        assert_eq!((options.value("--jobs"), options.value("-o")), (Some("-1"), Some("out")));
+        assert!(options.has("--strict"));
+        assert_eq!(options.files, ["-"]);
+        assert_eq!(read(&["--jobs=3"]).expect("good words").value("--jobs"), Some("3"));
+    }
+
+    #[test]
+    fn mistakes_are_named() {
+        let said = |words: &[&str]| read(words).err().expect("a mistake");
+        assert_eq!(said(&["--jobs"]), "--jobs needs a value after it");
+        assert_eq!(said(&["--job", "1"]), "unknown option --job");
+        assert_eq!(said(&["--strict", "--strict"]), "--strict is given twice");
+        assert_eq!(said(&["--strict=1"]), "unknown option --strict=1");
+    }
+}

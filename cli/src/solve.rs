@@ -1,0 +1,52 @@
+//! `solve`: questions to records on every core, in the questions' order.
+
+mod pool;
+mod progress;
+
+use crate::options::Options;
+use crate::stop::{tell, Stop};
+use crate::streams::{Input, Output};
+use crate::wire::SLOT;
+use progress::Progress;
+
+/// Runs the command; 1 where a question was refused and `--strict` asks.
+pub fn run(words: &[String]) -> Result<u8, Stop> {
+    let options = Options::read(words, &["--strict"], &["--jobs", "-o"])?;
+    let jobs = jobs(options.value("--jobs"))?;
+    let input = Input::open(options.file()?)?;
+    let mut output = Output::open(options.value("-o"), Some(&input))?;
+    let whole = input.file.as_ref().filter(|file| file.is_file());
+    let mut progress = Progress::new(whole.map(|file| file.len().div_ceil(SLOT as u64)));
+    let name = input.name;
+    let (mut questions, mut refused) = (0, 0);
+    let mut replies = pool::start(input.bytes, jobs);
+    while let Some(reply) = replies.next(|| output.flush())? {
+        let reply = match reply {
+            Ok(reply) => reply,
+            Err(e) => {
+                // The records before a failed read are whole, and are written.
+                output.flush()?;
+                return Err(Stop::reading(&name, &e));
+            }
+        };
+        output.put(&reply.records)?;
+        questions += reply.questions;
+        refused += reply.refused;
+        progress.show(questions);
+    }
+    output.flush()?;
+    drop(progress);
+    if options.has("--strict") && refused > 0 {
+        tell(&format!("{refused} of {questions} questions refused"));
+        return Ok(1);
+    }
+    Ok(0)
+}
+
+fn jobs(given: Option<&str>) -> Result<usize, Stop> {
+    match given.map(str::parse) {
+        None => Ok(std::thread::available_parallelism().map_or(1, |n| n.get())),
+        Some(Ok(n @ 1..=1024)) => Ok(n),
+        Some(_) => Stop::said("--jobs takes a whole number from 1 to 1024"),
+    }
+}

@@ -1,0 +1,124 @@
+//! Threads that answer blocks of slots, and the replies in the order of the blocks.
+//! The queues are short, so that no more than a few blocks are held at a time.
+
+use crate::proved::respond;
+use crate::stop::Stop;
+use crate::wire::SLOT;
+use std::io::{self, Read};
+use std::sync::mpsc::{sync_channel, Receiver, SyncSender, TryRecvError};
+use std::sync::{Arc, Mutex};
+use std::thread;
+
+/// The slots of a block: few, so that the threads end together; a slot takes milliseconds.
+const BLOCK: usize = 8;
+
+pub struct Reply {
+    pub records: Vec<u8>,
+    pub questions: u64,
+    pub refused: u64,
+}
+
+struct Work {
+    slots: Vec<u8>,
+    reply: SyncSender<Reply>,
+}
+
+/// A reply to wait for, or the failure of a read at its place in the order.
+type Awaited = Result<Receiver<Reply>, io::Error>;
+
+pub struct Replies {
+    order: Receiver<Awaited>,
+}
+
+/// Starts a thread that reads and `jobs` threads that answer. They end with the input, or with the process.
+pub fn start(input: Box<dyn Read + Send>, jobs: usize) -> Replies {
+    let (to_workers, work) = sync_channel(jobs);
+    let (to_order, order) = sync_channel(4 * jobs);
+    let work = Arc::new(Mutex::new(work));
+    for _ in 0..jobs {
+        let work = Arc::clone(&work);
+        thread::spawn(move || answer(&work));
+    }
+    thread::spawn(move || {
+        if let Err(e) = read(input, &to_workers, &to_order) {
+            // Nobody waits for it any more where the writer has stopped.
+            let _ = to_order.send(Err(e));
+        }
+    });
+    Replies { order }
+}
+
+fn answer(work: &Mutex<Receiver<Work>>) {
+    loop {
+        let Ok(Ok(next)) = work.lock().map(|queue| queue.recv()) else { return };
+        let mut reply = Reply { records: Vec::new(), questions: 0, refused: 0 };
+        for slot in next.slots.chunks(SLOT) {
+            let record = respond(slot);
+            reply.questions += 1;
+            reply.refused += u64::from(record[4] == 3);
+            reply.records.extend(record);
+        }
+        // Nobody waits for it any more where the writer has stopped.
+        let _ = next.reply.send(reply);
+    }
+}
+
+/// Hands over whole slots as soon as they are there, and at the end of the input a short one as it is.
+fn read(
+    mut input: Box<dyn Read + Send>,
+    workers: &SyncSender<Work>,
+    order: &SyncSender<Awaited>,
+) -> io::Result<()> {
+    let mut buffer = [0; BLOCK * SLOT];
+    let mut had = 0;
+    loop {
+        let more = match input.read(&mut buffer[had..]) {
+            Err(e) if e.kind() == io::ErrorKind::Interrupted => continue,
+            more => more?,
+        };
+        had += more;
+        let ready = if more == 0 { had } else { had - had % SLOT };
+        if ready > 0 && !hand_over(buffer[..ready].to_vec(), workers, order) {
+            return Ok(());
+        }
+        if more == 0 {
+            return Ok(());
+        }
+        buffer.copy_within(ready..had, 0);
+        had -= ready;
+    }
+}
+
+/// False where nobody takes replies any more.
+fn hand_over(slots: Vec<u8>, workers: &SyncSender<Work>, order: &SyncSender<Awaited>) -> bool {
+    let (reply, awaited) = sync_channel(1);
+    order.send(Ok(awaited)).is_ok() && workers.send(Work { slots, reply }).is_ok()
+}
+
+impl Replies {
+    /// The next reply in order; none at the end. `idle` is called before a wait, so that what is known is seen.
+    pub fn next(
+        &mut self,
+        mut idle: impl FnMut() -> Result<(), Stop>,
+    ) -> Result<Option<io::Result<Reply>>, Stop> {
+        let awaited = match self.order.try_recv() {
+            Err(TryRecvError::Disconnected) => return Ok(None),
+            Ok(awaited) => awaited,
+            Err(TryRecvError::Empty) => {
+                idle()?;
+                match self.order.recv() {
+                    Err(_) => return Ok(None),
+                    Ok(awaited) => awaited,
+                }
+            }
+        };
+        match awaited.map(|reply| reply.recv()) {
+            Err(failed) => Ok(Some(Err(failed))),
+            Ok(Ok(reply)) => Ok(Some(Ok(reply))),
+            Ok(Err(_)) => Stop::said("a thread that answers questions has ended early"),
+        }
+    }
+}
+
+#[cfg(test)]
+mod tests;
