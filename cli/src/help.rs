@@ -1,15 +1,20 @@
 //! What `--help` says, of the whole and of each command. Each fits a screen.
 
 pub const WHOLE: &str = "\
-lambert-cli: solve Lambert questions with the proved solver
+lambert-cli: solve and read Lambert questions with the proved solver
 
   lambert-cli solve ...      questions to records, on every core
+  lambert-cli show ...       records as a table, as JSON or as CSV
+  lambert-cli check ...      is a file of records or questions well-formed, and if not, where
   lambert-cli COMMAND --help
 
 A file named '-', or none, is standard input or standard output. Messages go to standard error.
 
 Exit status: 0 done; 1 with 'solve --strict' where a question was refused; 2 bad usage, bad
 input or a write that failed.
+
+For example:
+  lambert-cli solve questions | lambert-cli show --questions questions
 ";
 
 pub const SOLVE: &str = "\
@@ -22,4 +27,25 @@ number 1; empty input writes nothing.
   --jobs N   how many questions are worked on at a time, 1 to 1024 (default: the processors)
   --strict   exit status 1 where a question was refused
   -o OUT     the file to write (default: standard output)
+";
+
+pub const SHOW: &str = "\
+lambert-cli show [--questions FILE] [--json | --csv] [RECORDS]
+
+Shows records for a person to read: for each transfer its orbit, x of the chosen end
+(x = k/2^32), the bracket's width in k and in x, and v1 and v2 in km/s with their sizes; for each
+refusal its number and what that means.
+
+  --questions FILE   the questions that the records answer, shown with them
+  --json             an object for each record, one a line
+  --csv              a line for each transfer or refusal, after a header
+";
+
+pub const CHECK: &str = "\
+lambert-cli check [--questions] [FILE]
+
+Says whether a file is well-formed, with its counts, or where it is not: the byte, the record
+and what is wrong.
+
+  --questions   the file has questions in slots of 82 bytes (default: records)
 ";

@@ -1,10 +1,14 @@
 //! The command for people over the proved solver. It computes no transfer itself: every record comes from `proved`.
 #![deny(unsafe_code)]
 
+mod check;
+mod csv;
 mod help;
 mod options;
 #[allow(unsafe_code)]
 mod proved;
+mod refusal;
+mod show;
 mod solve;
 mod stop;
 mod streams;
@@ -16,7 +20,8 @@ use stop::Stop;
 /// A command's name, its help and what runs it.
 type Command = (&'static str, &'static str, fn(&[String]) -> Result<u8, Stop>);
 
-const COMMANDS: [Command; 1] = [("solve", help::SOLVE, solve::run)];
+const COMMANDS: [Command; 3] =
+    [("solve", help::SOLVE, solve::run), ("show", help::SHOW, show::run), ("check", help::CHECK, check::run)];
 
 fn main() -> ExitCode {
     let told = words().and_then(|words| run(&words));

@@ -1,4 +1,48 @@
-//! The records as they stand in a file. Little-endian.
+//! The records as they stand in a file: questions written and read, answers and refusals read. Little-endian.
 
-/// The bytes of a question.
-pub const SLOT: usize = 82;
+pub mod question;
+pub mod record;
+
+pub use question::{Question, Slots, SLOT};
+pub use record::{Entry, Outcome, Record, Records};
+
+/// A number at a place of some bytes that are known to be long enough.
+macro_rules! number_at {
+    ($name:ident, $type:ty) => {
+        fn $name(bytes: &[u8], at: usize) -> $type {
+            const SIZE: usize = std::mem::size_of::<$type>();
+            let mut part = [0; SIZE];
+            part.copy_from_slice(&bytes[at..at + SIZE]);
+            <$type>::from_le_bytes(part)
+        }
+    };
+}
+
+number_at!(u16_at, u16);
+number_at!(u32_at, u32);
+number_at!(i64_at, i64);
+number_at!(f64_at, f64);
+
+/// Where a file is not well-formed.
+#[derive(Debug, PartialEq)]
+pub struct Fault {
+    /// The byte at which the wrong field begins.
+    pub offset: u64,
+    /// The record or slot, counted from 1.
+    pub number: u64,
+    pub words: String,
+}
+
+/// Reads until the buffer is full or the input ends, and says how many bytes there were.
+pub fn read_full(input: &mut impl std::io::Read, buffer: &mut [u8]) -> std::io::Result<usize> {
+    let mut had = 0;
+    while had < buffer.len() {
+        match input.read(&mut buffer[had..]) {
+            Ok(0) => break,
+            Ok(n) => had += n,
+            Err(e) if e.kind() == std::io::ErrorKind::Interrupted => {}
+            Err(e) => return Err(e),
+        }
+    }
+    Ok(had)
+}

@@ -1,0 +1,59 @@
+//! `check`: whether a file is well-formed, with its counts, or where it is not.
+
+use crate::options::Options;
+use crate::stop::Stop;
+use crate::streams::{Input, Output};
+use crate::wire::{Fault, Outcome, Question, Records, Slots};
+use std::collections::BTreeMap;
+use std::io::BufReader;
+
+pub fn run(words: &[String]) -> Result<u8, Stop> {
+    let options = Options::read(words, &["--questions"], &[])?;
+    let input = Input::open(options.file()?)?;
+    let summary = if options.has("--questions") { questions(input)? } else { records(input)? };
+    let mut output = Output::open(None, None)?;
+    output.put(summary.as_bytes())?;
+    output.flush()?;
+    Ok(0)
+}
+
+/// A fault with its place, as it is told.
+pub fn located(name: &str, what: &str, fault: &Fault) -> Stop {
+    let Fault { offset, number, words } = fault;
+    Stop::Said(format!("{name}: byte {offset}, {what} {number}: {words}"))
+}
+
+fn questions(input: Input) -> Result<String, Stop> {
+    let name = input.name;
+    let mut slots = Slots::new(BufReader::new(input.bytes));
+    while let Some(slot) = slots.next().map_err(|e| Stop::reading(&name, &e))? {
+        if let Err((at, words)) = Question::read(&slot) {
+            let offset = slots.offset() + at as u64;
+            return Err(located(&name, "slot", &Fault { offset, number: slots.number, words }));
+        }
+    }
+    Ok(format!("{name}: {} questions, well-formed\n", slots.number))
+}
+
+fn records(input: Input) -> Result<String, Stop> {
+    let name = input.name;
+    let mut records = Records::new(BufReader::new(input.bytes));
+    let mut answers = BTreeMap::new();
+    let mut refusals = BTreeMap::new();
+    loop {
+        let next = records.next().map_err(|e| Stop::reading(&name, &e))?;
+        match next.map_err(|fault| located(&name, "record", &fault))?.map(|record| record.outcome) {
+            None => break,
+            Some(Outcome::Answered(entries)) => *answers.entry(entries.len()).or_insert(0u64) += 1,
+            Some(Outcome::Refused(number)) => *refusals.entry(number).or_insert(0u64) += 1,
+        }
+    }
+    let mut told = format!("{name}: {} records, {} bytes, well-formed\n", records.number, records.offset);
+    for (entries, count) in answers {
+        told += &format!("{count} answered with {entries} transfer{}\n", if entries == 1 { "" } else { "s" });
+    }
+    for (number, count) in refusals {
+        told += &format!("{count} refused with number {number}\n");
+    }
+    Ok(told)
+}

@@ -1,0 +1,56 @@
+//! What is read off an entry without any orbital mathematics: x of an end, the kind of orbit, a velocity's size.
+
+use crate::wire::Entry;
+
+/// Places are counted in steps of 2^-32 of x.
+const ONE: i64 = 1 << 32;
+
+/// k/2^32, which is exact for every k of the grid.
+pub fn x_of(k: i64) -> f64 {
+    k as f64 / ONE as f64
+}
+
+/// The kind of orbit at the chosen end.
+pub fn kind(entry: &Entry) -> &'static str {
+    match entry.chosen().cmp(&ONE) {
+        std::cmp::Ordering::Less => "ellipse",
+        std::cmp::Ordering::Equal => "parabola",
+        std::cmp::Ordering::Greater => "hyperbola",
+    }
+}
+
+pub fn end(entry: &Entry) -> &'static str {
+    if entry.upper_chosen {
+        "upper"
+    } else {
+        "lower"
+    }
+}
+
+/// The size of a velocity, for a reader: it is no part of the record.
+pub fn size([x, y, z]: [f64; 3]) -> f64 {
+    x.hypot(y).hypot(z)
+}
+
+#[cfg(test)]
+mod tests {
+    use super::*;
+
+    fn at(low: i64, upper_chosen: bool) -> Entry {
+        Entry { low, halvings: 20, upper_chosen, v1: [0.0; 3], v2: [0.0; 3] }
+    }
+
+    #[test]
+    fn the_chosen_end_decides_the_kind() {
+        assert_eq!(kind(&at(ONE - 1, false)), "ellipse");
+        assert_eq!(kind(&at(ONE - 1, true)), "parabola");
+        assert_eq!(kind(&at(ONE, false)), "parabola");
+        assert_eq!(kind(&at(ONE, true)), "hyperbola");
+    }
+
+    #[test]
+    fn x_is_exact() {
+        assert_eq!((x_of(ONE), x_of(-ONE / 2), x_of(1)), (1.0, -0.5, 2f64.powi(-32)));
+        assert_eq!(size([2.0, -3.0, 6.0]), 7.0);
+    }
+}

@@ -1,0 +1,61 @@
+//! Which question a record answers: the one at its place, and its job and revision say so too.
+
+use crate::stop::Stop;
+use crate::streams::Input;
+use crate::wire::{Outcome, Question, Record, Slots};
+use std::io::{BufReader, Read};
+
+pub enum Asked {
+    /// The questions are not at hand.
+    Unknown,
+    /// The slot is no question, as number 1 says.
+    NoQuestion,
+    Known(Question),
+}
+
+type Source = Slots<BufReader<Box<dyn Read + Send>>>;
+
+/// The questions beside the records, if they are at hand.
+pub struct Pairs {
+    questions: Option<(String, Source)>,
+}
+
+impl Pairs {
+    pub fn open(name: Option<&str>) -> Result<Pairs, Stop> {
+        let Some(name) = name else { return Ok(Pairs { questions: None }) };
+        let input = Input::open(Some(name))?;
+        Ok(Pairs { questions: Some((input.name, Slots::new(BufReader::new(input.bytes)))) })
+    }
+
+    pub fn at_hand(&self) -> bool {
+        self.questions.is_some()
+    }
+
+    /// The question of the record at a place. After the last record there must be no question left.
+    pub fn next(&mut self, record: Option<&Record>, number: u64) -> Result<Asked, Stop> {
+        let Some((name, slots)) = &mut self.questions else { return Ok(Asked::Unknown) };
+        let slot = slots.next().map_err(|e| Stop::reading(name, &e))?;
+        match (record, slot) {
+            (None, None) => Ok(Asked::NoQuestion),
+            (None, Some(_)) => Stop::said(format!("{name}: there are more questions than records")),
+            (Some(_), None) => Stop::said(format!("{name}: there are fewer questions than records")),
+            (Some(record), Some(slot)) => {
+                paired(record, &slot).or_else(|words| Stop::said(format!("{name}: slot {number} {words}")))
+            }
+        }
+    }
+}
+
+fn paired(record: &Record, slot: &[u8]) -> Result<Asked, String> {
+    let damaged = matches!(record.outcome, Outcome::Refused(1));
+    match Question::read(slot) {
+        Err(_) if damaged => Ok(Asked::NoQuestion),
+        Err((_, words)) => Err(format!("is no question ({words}), but its record does not say so")),
+        Ok(_) if damaged => Err("is a question, but its record says that it is none".into()),
+        Ok(asked) if (asked.job, asked.revision) == (record.job, record.revision) => Ok(Asked::Known(asked)),
+        Ok(asked) => Err(format!(
+            "is job {}, revision {}, but its record is of job {}, revision {}",
+            asked.job, asked.revision, record.job, record.revision
+        )),
+    }
+}

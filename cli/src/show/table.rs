@@ -1,0 +1,125 @@
+//! Records as a table. A record's first line has its job and revision; a transfer takes two lines, v1 and v2.
+
+use super::orbit::{end, kind, size, x_of};
+use super::pairs::Asked;
+use crate::refusal;
+use crate::wire::{Entry, Outcome, Question, Record};
+
+pub const HEAD: &str = "       job   rev  transfer  orbit      x of chosen end  end    width k    width x  \
+    km/s          x            y            z         size\n";
+
+/// The longest line of words.
+const WIDTH: usize = 118;
+
+pub fn record(record: &Record, asked: &Asked) -> String {
+    let mut lines = Vec::new();
+    match asked {
+        Asked::Unknown => {}
+        Asked::NoQuestion => lines.push("asked     the slot is no question".into()),
+        Asked::Known(question) => lines.extend(asked_lines(question)),
+    }
+    match &record.outcome {
+        Outcome::Refused(number) => {
+            lines.extend(wrapped(&format!("refused {number}: {}", refusal::words(*number))));
+        }
+        Outcome::Answered(entries) => {
+            for (i, entry) in entries.iter().enumerate() {
+                lines.extend(entry_lines(entry, &format!("{} of {}", i + 1, entries.len())));
+            }
+        }
+    }
+    let mut text = String::new();
+    let mut before = format!("{:>10} {:>5}", record.job, record.revision);
+    for line in lines {
+        text += &format!("{before}  {line}\n");
+        before = " ".repeat(before.len());
+    }
+    text
+}
+
+fn entry_lines(entry: &Entry, which: &str) -> [String; 2] {
+    let (x, width) = (x_of(entry.chosen()), entry.width());
+    let first = format!(
+        "{which:<8}  {:<9}  {x:>15.12}  {:<5}  {width:>7}  {:>9.3e}",
+        kind(entry),
+        end(entry),
+        x_of(width)
+    );
+    let rest = " ".repeat(first.chars().count());
+    [format!("{first}  v1{}", velocity(entry.v1)), format!("{rest}  v2{}", velocity(entry.v2))]
+}
+
+/// The components and the size: six decimals, or with an exponent where those would say too little.
+fn velocity(v: [f64; 3]) -> String {
+    let size = size(v);
+    let plain = size == 0.0 || (0.01..1e6).contains(&size);
+    let number = |v: f64| if plain { format!("{v:>13.6}") } else { format!("{v:>13.5e}") };
+    [v[0], v[1], v[2], size].map(number).concat()
+}
+
+fn asked_lines(question: &Question) -> Vec<String> {
+    let list = |r: [f64; 3]| r.map(number).join(", ");
+    let Question { r1, r2, mu, time, revolutions, .. } = question;
+    let s = if *revolutions == 1 { "" } else { "s" };
+    vec![
+        format!("asked     r1 ({}) km, r2 ({}) km, mu {} km^3/s^2,", list(*r1), list(*r2), number(*mu)),
+        format!(
+            "          time {} s, {revolutions} whole revolution{s}, {} way",
+            number(*time),
+            question.way()
+        ),
+    ]
+}
+
+/// A number as short as it can be read back, with an exponent where it is very large or very small.
+fn number(value: f64) -> String {
+    if value == 0.0 || (1e-5..1e15).contains(&value.abs()) {
+        format!("{value}")
+    } else {
+        format!("{value:e}")
+    }
+}
+
+/// Words in lines of a width, broken at spaces; the lines after the first stand under the first word's end.
+fn wrapped(words: &str) -> Vec<String> {
+    let mut lines = vec![String::new()];
+    for word in words.split(' ') {
+        let last = lines.last_mut().expect("there is a first line");
+        if last.is_empty() {
+            *last = word.into();
+        } else if last.len() + 1 + word.len() <= WIDTH {
+            *last += " ";
+            *last += word;
+        } else {
+            lines.push(format!("          {word}"));
+        }
+    }
+    lines
+}
+
+#[cfg(test)]
+mod tests {
+    use super::*;
+
+    #[test]
+    fn every_refusal_says_its_words() {
+        for number in 1..=14 {
+            let refused = Record { job: 5, revision: 1, outcome: Outcome::Refused(number) };
+            let text = record(&refused, &Asked::Unknown);
+            let words: Vec<&str> = text.split_whitespace().skip(2).collect();
+            assert_eq!(words.join(" "), format!("refused {number}: {}", refusal::words(number)));
+        }
+    }
+
+    #[test]
+    fn numbers_are_short() {
+        assert_eq!([0.0, 7000.0, 0.1, 1e300, 2e-9].map(number), ["0", "7000", "0.1", "1e300", "2e-9"]);
+        assert_eq!(number(f64::NAN), "NaN");
+    }
+
+    #[test]
+    fn small_velocities_keep_their_digits() {
+        assert!(velocity([1e-5, 0.0, 0.0]).contains("1.00000e-5"));
+        assert!(velocity([3.0, 4.0, 0.0]).ends_with("5.000000"));
+    }
+}

@@ -1,0 +1,149 @@
+//! Answers and refusals, read one after the other. What the wire's rules do not allow is a fault.
+
+use super::{f64_at, i64_at, read_full, u16_at, u32_at, Fault};
+use std::io::{self, Read};
+
+const HEAD: usize = 16;
+const ENTRY: usize = 64;
+/// Stations stand 2^20 apart, from -2^32 + 2^20 to 2^34.
+const STATION: i64 = 1 << 20;
+const FIRST: i64 = STATION - (1 << 32);
+const LAST: i64 = 1 << 34;
+
+#[derive(Debug, PartialEq)]
+pub struct Entry {
+    pub low: i64,
+    pub halvings: u32,
+    pub upper_chosen: bool,
+    pub v1: [f64; 3],
+    pub v2: [f64; 3],
+}
+
+#[derive(Debug, PartialEq)]
+pub enum Outcome {
+    Answered(Vec<Entry>),
+    Refused(u16),
+}
+
+#[derive(Debug, PartialEq)]
+pub struct Record {
+    pub job: u32,
+    pub revision: u32,
+    pub outcome: Outcome,
+}
+
+impl Entry {
+    /// The bracket's width in k.
+    pub fn width(&self) -> i64 {
+        STATION >> self.halvings
+    }
+
+    /// k of the chosen end.
+    pub fn chosen(&self) -> i64 {
+        self.low + if self.upper_chosen { self.width() } else { 0 }
+    }
+
+    fn read(bytes: &[u8]) -> Result<Entry, (usize, String)> {
+        let (low, halvings, chosen) = (i64_at(bytes, 0), u32_at(bytes, 8), u32_at(bytes, 12));
+        if halvings > 20 {
+            return Err((8, format!("halvings are {halvings}, above 20")));
+        }
+        if chosen > 1 {
+            return Err((12, format!("chosen end is {chosen}, not 0 or 1")));
+        }
+        if low < FIRST || low > LAST - (STATION >> halvings) {
+            return Err((0, format!("lower end k = {low} is outside the stations")));
+        }
+        let number = |i: usize| f64_at(bytes, 16 + 8 * i);
+        match (0..6).find(|&i| !number(i).is_finite()) {
+            Some(i) => Err((16 + 8 * i, format!("a velocity component is {}", number(i)))),
+            None => Ok(Entry {
+                low,
+                halvings,
+                upper_chosen: chosen == 1,
+                v1: [number(0), number(1), number(2)],
+                v2: [number(3), number(4), number(5)],
+            }),
+        }
+    }
+}
+
+impl Record {
+    /// The record in bytes whose head and size are known to fit each other.
+    fn read(bytes: &[u8]) -> Result<Record, (usize, String)> {
+        let last = u16_at(bytes, 14);
+        let outcome = if u16_at(bytes, 4) == 3 {
+            if !(1..=14).contains(&last) {
+                return Err((14, format!("number is {last}, not 1 to 14")));
+            }
+            Outcome::Refused(last)
+        } else {
+            let entries = bytes[HEAD..].chunks(ENTRY).enumerate().map(|(i, part)| {
+                let place = |(at, words)| (HEAD + ENTRY * i + at, format!("entry {}: {words}", i + 1));
+                Entry::read(part).map_err(place)
+            });
+            Outcome::Answered(entries.collect::<Result<_, _>>()?)
+        };
+        Ok(Record { job: u32_at(bytes, 6), revision: u32_at(bytes, 10), outcome })
+    }
+}
+
+/// The size that a head asks for, or what is wrong with it.
+fn size_of(head: &[u8]) -> Result<usize, (usize, String)> {
+    let (length, kind, n) = (u32_at(head, 0), u16_at(head, 4), u16_at(head, 14));
+    let own = match kind {
+        2 if (1..=8).contains(&n) => 12 + ENTRY * usize::from(n),
+        2 => return Err((14, format!("n is {n}, not 1 to 8"))),
+        3 => 12,
+        _ => return Err((4, format!("kind is {kind}, not 2 or 3"))),
+    };
+    if length as usize != own {
+        let words = if kind == 2 { format!("n = {n}") } else { "a refusal".into() };
+        return Err((0, format!("length is {length}, but {words} has the length {own}")));
+    }
+    Ok(4 + own)
+}
+
+/// The records of an input, up to the first fault.
+pub struct Records<R> {
+    input: R,
+    pub offset: u64,
+    pub number: u64,
+}
+
+impl<R: Read> Records<R> {
+    pub fn new(input: R) -> Self {
+        Records { input, offset: 0, number: 0 }
+    }
+
+    /// The next record; none at the end of the input.
+    pub fn next(&mut self) -> io::Result<Result<Option<Record>, Fault>> {
+        let mut bytes = [0; HEAD + 8 * ENTRY];
+        let had = read_full(&mut self.input, &mut bytes[..HEAD])?;
+        if had == 0 {
+            return Ok(Ok(None));
+        }
+        self.number += 1;
+        if had < HEAD {
+            return Ok(Err(self.fault((had, format!("cut: {had} bytes of a head of {HEAD}")))));
+        }
+        let size = match size_of(&bytes[..HEAD]) {
+            Ok(size) => size,
+            Err(wrong) => return Ok(Err(self.fault(wrong))),
+        };
+        let had = HEAD + read_full(&mut self.input, &mut bytes[HEAD..size])?;
+        if had < size {
+            return Ok(Err(self.fault((had, format!("cut: {had} bytes of {size}")))));
+        }
+        let read = Record::read(&bytes[..size]).map_err(|wrong| self.fault(wrong));
+        self.offset += size as u64;
+        Ok(read.map(Some))
+    }
+
+    fn fault(&self, (at, words): (usize, String)) -> Fault {
+        Fault { offset: self.offset + at as u64, number: self.number, words }
+    }
+}
+
+#[cfg(test)]
+mod tests;
