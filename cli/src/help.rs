@@ -1,8 +1,9 @@
 //! What `--help` says, of the whole and of each command. Each fits a screen.
 
 pub const WHOLE: &str = "\
-lambert-cli: solve and read Lambert questions with the proved solver
+lambert-cli: ask, solve and read Lambert questions with the proved solver
 
+  lambert-cli ask ...        a question from words, or many from a CSV file, to bytes
   lambert-cli solve ...      questions to records, on every core
   lambert-cli show ...       records as a table, as JSON or as CSV
   lambert-cli check ...      is a file of records or questions well-formed, and if not, where
@@ -14,7 +15,8 @@ Exit status: 0 done; 1 with 'solve --strict' where a question was refused; 2 bad
 input or a write that failed.
 
 For example:
-  lambert-cli solve questions | lambert-cli show --questions questions
+  lambert-cli ask --job 1 --r1 7000,0,0 --r2 0,42164,0 --mu earth --time 6h --way short -o q
+  lambert-cli solve q | lambert-cli show --questions q
 ";
 
 pub const SOLVE: &str = "\
@@ -39,6 +41,26 @@ refusal its number and what that means.
   --questions FILE   the questions that the records answer, shown with them
   --json             an object for each record, one a line
   --csv              a line for each transfer or refusal, after a header
+";
+
+pub const ASK: &str = "\
+lambert-cli ask --r1 X,Y,Z --r2 X,Y,Z --mu MU --time TIME --way short|long --job N
+                [--revolutions M] [--revision N] [-o OUT]
+lambert-cli ask --csv FILE [-o OUT]
+
+Writes a question of 82 bytes, or one for each line of a CSV file. Whether it can be answered is
+the solver's to say; what is no question is refused here, and then nothing is written.
+
+  --r1, --r2       positions in km
+  --mu             km^3/s^2, or earth, moon, mars, sun; the value is said on standard error
+  --time           a number and s, min, h or d (default: s)
+  --revolutions    whole revolutions, 0 to 65535 (default: 0)
+  --way            short or long
+  --job            1 to 4294967295
+  --revision       0 to 4294967295 (default: 1)
+  --csv FILE       a header and a line for each question, with the columns
+                   job r1_x r1_y r1_z r2_x r2_y r2_z mu time way, in any order,
+                   and if wanted revision and revolutions
 ";
 
 pub const CHECK: &str = "\

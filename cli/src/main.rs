@@ -1,6 +1,7 @@
 //! The command for people over the proved solver. It computes no transfer itself: every record comes from `proved`.
 #![deny(unsafe_code)]
 
+mod ask;
 mod check;
 mod csv;
 mod help;
@@ -20,8 +21,12 @@ use stop::Stop;
 /// A command's name, its help and what runs it.
 type Command = (&'static str, &'static str, fn(&[String]) -> Result<u8, Stop>);
 
-const COMMANDS: [Command; 3] =
-    [("solve", help::SOLVE, solve::run), ("show", help::SHOW, show::run), ("check", help::CHECK, check::run)];
+const COMMANDS: [Command; 4] = [
+    ("ask", help::ASK, ask::run),
+    ("solve", help::SOLVE, solve::run),
+    ("show", help::SHOW, show::run),
+    ("check", help::CHECK, check::run),
+];
 
 fn main() -> ExitCode {
     let told = words().and_then(|words| run(&words));

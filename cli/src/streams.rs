@@ -26,6 +26,12 @@ impl Input {
             }
         }
     }
+
+    pub fn text(&mut self) -> Result<String, Stop> {
+        let mut text = String::new();
+        self.bytes.read_to_string(&mut text).map_err(|e| Stop::reading(&self.name, &e))?;
+        Ok(text)
+    }
 }
 
 /// An output whose failures are told with its name.

@@ -1,0 +1,112 @@
+//! The fields of a question from text. Only what a field cannot hold is refused; the rest is the solver's to judge.
+
+/// The bodies that a gravitational parameter is known of, in km³/s², and where the value is from.
+pub const BODIES: [(&str, f64, &str); 4] = [
+    ("earth", 398_600.441_8, "WGS 84"),
+    ("moon", 4_902.800_118, "DE440"),
+    ("mars", 42_828.375_816, "DE440, with its moons"),
+    ("sun", 132_712_440_041.279_42, "DE440"),
+];
+
+const UNITS: [(&str, f64); 4] = [("s", 1.0), ("min", 60.0), ("h", 3_600.0), ("d", 86_400.0)];
+
+/// A decimal number within the range of an f64.
+pub fn real(text: &str) -> Result<f64, String> {
+    let text = text.trim();
+    if text.is_empty() {
+        return Err("is empty".into());
+    }
+    let numeral = text.starts_with(|c: char| c.is_ascii_digit() || "+-.".contains(c))
+        && text.chars().all(|c| c.is_ascii_digit() || "+-.eE".contains(c));
+    match text.parse::<f64>() {
+        Ok(value) if numeral && value.is_infinite() => Err(format!("{text:?} is too large for an f64")),
+        Ok(value) if numeral && value == 0.0 && has_digit(text) => {
+            Err(format!("{text:?} is too small for an f64"))
+        }
+        Ok(value) if numeral => Ok(value),
+        _ => Err(format!("{text:?} is not a number")),
+    }
+}
+
+/// Whether the digits before an exponent are not all 0.
+fn has_digit(text: &str) -> bool {
+    text.split(['e', 'E']).next().is_some_and(|digits| digits.contains(|c| ('1'..='9').contains(&c)))
+}
+
+/// A whole number from 0 to `max`.
+pub fn whole(text: &str, max: u32) -> Result<u32, String> {
+    let text = text.trim();
+    let digits = text.strip_prefix('-').unwrap_or(text);
+    match text.parse::<u32>() {
+        _ if text.is_empty() => Err("is empty".into()),
+        _ if digits.is_empty() || !digits.chars().all(|c| c.is_ascii_digit()) => {
+            Err(format!("{text:?} is not a whole number"))
+        }
+        _ if digits != text => Err(format!("{text} is negative")),
+        Ok(value) if value <= max => Ok(value),
+        _ => Err(format!("{text} is above {max}")),
+    }
+}
+
+pub fn job(text: &str) -> Result<u32, String> {
+    match whole(text, u32::MAX)? {
+        0 => Err("is 0, which no question may have".into()),
+        job => Ok(job),
+    }
+}
+
+pub fn revision(text: &str) -> Result<u32, String> {
+    whole(text, u32::MAX)
+}
+
+pub fn revolutions(text: &str) -> Result<u16, String> {
+    whole(text, u16::MAX.into()).map(|value| value as u16)
+}
+
+/// True the long way.
+pub fn way(text: &str) -> Result<bool, String> {
+    match text.trim() {
+        "short" => Ok(false),
+        "long" => Ok(true),
+        "" => Err("is empty".into()),
+        other => Err(format!("{other:?} is neither short nor long")),
+    }
+}
+
+/// A number, or the name of a body.
+pub fn mu(text: &str) -> Result<f64, String> {
+    match BODIES.iter().find(|(name, ..)| *name == text.trim()) {
+        Some((_, value, _)) => Ok(*value),
+        None if text.trim().starts_with(char::is_alphabetic) => {
+            Err(format!("{:?} is no number and none of earth, moon, mars, sun", text.trim()))
+        }
+        None => real(text),
+    }
+}
+
+/// A time in seconds: the number, as an f64, times its unit.
+pub fn time(text: &str) -> Result<f64, String> {
+    let text = text.trim();
+    let number = text.trim_end_matches(|c: char| c.is_alphabetic()).trim_end();
+    let unit = text[number.len()..].trim_start();
+    let value = real(if number.is_empty() { text } else { number })?;
+    match UNITS.iter().find(|(name, _)| *name == unit || (unit.is_empty() && *name == "s")) {
+        None => Err(format!("{unit:?} is no unit of time: s, min, h or d")),
+        Some((_, seconds)) if (value * seconds).is_infinite() => {
+            Err(format!("{text:?} is too large for an f64"))
+        }
+        Some((_, seconds)) => Ok(value * seconds),
+    }
+}
+
+/// Three numbers with commas between.
+pub fn vector(text: &str) -> Result<[f64; 3], String> {
+    let parts: Vec<&str> = text.split(',').collect();
+    match parts[..] {
+        [x, y, z] => Ok([real(x)?, real(y)?, real(z)?]),
+        _ => Err(format!("has {} components, not 3", parts.len())),
+    }
+}
+
+#[cfg(test)]
+mod tests;
