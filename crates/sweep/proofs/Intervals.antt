@@ -17,6 +17,10 @@ use Rattle.sweep.specs.Interval.{Interval}
 use Rattle.sweep.proofs.Places.{mag-add}
 use Rattle.sweep.proofs.Halving.{double, same-side, up-less, middle, top, up-twice, sum-is, middle-is, not-low, not-high, step, mag-twice}
 
+-- an interval by other names of its ends
+pub renamed : {σ : ℤ → Side} {low : Side} {a b x y : ℤ} {h : ℕ} → x ≡ a → y ≡ b → Interval σ low a b h → Interval σ low x y h
+renamed {σ} {low} {b = b} {x = x} {h = h} e f v = subst (λ (z : ℤ). Interval σ low x z h) (sym f) (subst (λ (z : ℤ). Interval σ low z b h) (sym e) v)
+
 -- 2^k is 1 at k = 0 alone
 one-at : (k : ℕ) → 2 ^ k ≡ 1 → k ≡ 0
 one-at zero e = refl

@@ -9,7 +9,7 @@ use mir.Facts.{toZ-ofZ}
 use Rattle.sweep.specs.declared.bisection.Bracket.{Bracket}
 use Rattle.sweep.specs.Sides.{sideAt}
 use Rattle.sweep.specs.Halving.{bisectOf}
-use Rattle.sweep.proofs.Intervals.{at-one, width-fits, width-bits, left, mid, sum-fits, halfway-fits, mid-read, bits-low, bits-high, lower-next, upper-next, at-void, in-lower, in-upper}
+use Rattle.sweep.proofs.Intervals.{renamed, at-one, width-fits, width-bits, left, mid, sum-fits, halfway-fits, mid-read, bits-low, bits-high, lower-next, upper-next, at-void, in-lower, in-upper}
 use borrow.Fn.Kinds.{In}
 use borrow.Fn.PlainCycle.{Measures, is, falls, and}
 use Rattle.sweep.proofs.bisection.bisect.Reads as bisect
@@ -108,7 +108,7 @@ module _ (t : ℕ) where
       let k = c .before .before .before .before .before .before .before in
       let v = k .before .pre .1 in (
         fewer k,
-        rw (mid-read v (more k) (k .before .fits .a) (k .before .fits .b), toZ-ofZ (k .before .fits .a)) (lower-next v (more k)),
+        renamed (toZ-ofZ (k .before .fits .a)) (mid-read v (more k) (k .before .fits .a) (k .before .fits .b)) (lower-next v (more k)),
       )
 
   add-bisect-2 : bisect-lts.Need-add-bisect-2 (calls t) (bisect-at t) bisect.Post
@@ -119,7 +119,7 @@ module _ (t : ℕ) where
       let k = c .before .before .before .before .before .before .before in
       let v = k .before .pre .1 in (
         fewer k,
-        rw (mid-read v (more k) (k .before .fits .a) (k .before .fits .b), toZ-ofZ (k .before .fits .b))
+        renamed (mid-read v (more k) (k .before .fits .a) (k .before .fits .b)) (toZ-ofZ (k .before .fits .b))
             (upper-next v (more k) (here (c .before .before .before .before)) (sym (c .before .before .before .is-unknown .ensures) ∙ c .before .before .if4 .left) (sym (c .before .are-opposite .ensures) ∙ c .if5 .left)),
       )
 
