@@ -30,7 +30,8 @@ use Rattle.sweep.specs.declared.bisection.Bracket.{Bracket}
 use Rattle.sweep.proofs.AnyTriangle.{known-finite}
 use Rattle.sweep.proofs.BracketLaws.{bracket-holds}
 use Rattle.velocity.specs.Chosen.{upperChosen, velocitiesFinite}
-use Rattle.solver.specs.Entries.{placeOf, sidesOf, lastStation, bracketsOf, upperOf, takesUpper, velocitiesAt, velocitiesFor, finiteFor, endNumber, entryFor, entriesOf, every}
+use Rattle.entries.specs.Entries.{placeOf, upperOf, takesUpper, velocitiesAt, velocitiesFor, finiteFor, endNumber, entryFor, every}
+use Rattle.solver.specs.Crossed.{sidesOf, lastStation, bracketsOf, entriesOf}
 use Rattle.solver.specs.Demand.{Counts, pairsOf, bracketAt, entryAt, entryFinite, ChosenBy}
 
 -- ---- bytes

@@ -30,13 +30,14 @@ use Rattle.sweep.specs.Crossings.{crosses, crossings}
 use Rattle.sweep.proofs.Theorems.{clash, false-by, neighbours, listed-exactly, rises, counted, none-exactly, void-at as some-at, at-void as some-void}
 use Rattle.solver.specs.declared.Outcome.{Outcome}
 use Rattle.solver.specs.declared.Outcome.the-variants.{Refused, Answered}
-use Rattle.solver.specs.Entries.{sidesOf, lastStation, entryFor, entriesOf, finiteFor, every}
+use Rattle.entries.specs.Entries.{entryFor, finiteFor, every}
+use Rattle.solver.specs.Crossed.{sidesOf, lastStation, entriesOf}
 use Rattle.solver.specs.Table.{crossingCount, anyVoid, allFinite, lateChecks}
 use Rattle.solver.specs.Solve.{Solved, refused, answered, settledOf, after, solveOf}
 use Rattle.solver.specs.Demand.{problemFrom, tableOf, rowOf, HasAnswer, Demand1, Past, Counts, pairsOf, bracketAt, entryAt, FiniteAll, FiniteNot, TimedAll, VoidSome, NonePair, Pairs, Answer, Demand3}
 use Rattle.solver.proofs.Numbering.{rows, rows-are}
 use Rattle.solver.proofs.RowFacts.{is-none, is-eleven, is-twelve, is-thirteen, is-fourteen, only-four, first-append}
-use Rattle.solver.proofs.Written.{laid}
+use Rattle.entries.proofs.Written.{laid}
 use Rattle.solver.proofs.Recorded.{apart}
 use Rattle.solver.proofs.Answered.{entry-place, entries-pairs, each-finite, finite-each, finite-not, finite-is, timed-at, void-at, at-void, counts-crosses, crosses-counts, bracket-of, chosen-by, lower-of, halvings-of}
 

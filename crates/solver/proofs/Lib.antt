@@ -1,5 +1,3 @@
-pub mod BracketLists
-pub mod Written
 pub mod Numbering
 pub mod Recorded
 pub mod RowFacts

@@ -20,7 +20,7 @@ use Rattle.solver.specs.Table.{lateChecks}
 use Rattle.solver.specs.Solve.{Solved, refused, answered, settledOf, after, solveOf, longest, refusalFor, recordOf, Response, responseOf}
 use Rattle.solver.specs.Demand.{Recording}
 use Rattle.solver.proofs.Recorded.{room-same, when-answered, when-refused, has-room, apart, record-short}
-use Rattle.solver.proofs.Written.{laid, laid-length}
+use Rattle.entries.proofs.Written.{laid, laid-length}
 
 module _ (s : List ℕ) where
   by-row : (p : Problem) (none : Bool) (b c : List ℕ) → cond none (answered p b) (refused (firstOf (lateChecks p)) b) .outcome ≡ cond none (answered p c) (refused (firstOf (lateChecks p)) c) .outcome

@@ -15,7 +15,8 @@ use Rattle.sweep.specs.declared.Crossings.{Crossings}
 use Rattle.sweep.specs.declared.Walk.{Walk}
 use Rattle.sweep.specs.declared.Walk.the-variants.{AllTimed, SomeVoid, NinthFound}
 use Rattle.sweep.proofs.Theorems.{counted, length-is, all-listed}
-use Rattle.solver.specs.Entries.{sidesOf, lastStation, bracketsOf, entryFor, entriesOf, finiteFor, every}
+use Rattle.entries.specs.Entries.{entryFor, finiteFor, every}
+use Rattle.solver.specs.Crossed.{sidesOf, lastStation, bracketsOf, entriesOf}
 use Rattle.solver.specs.Table.{crossingCount, anyVoid, allFinite, lateChecks}
 use Rattle.solver.specs.Internals.{velocityNumber, lateNumber}
 use Rattle.solver.specs.Solve.{Solved, refused, answered, settledOf}

@@ -18,7 +18,7 @@ use Rattle.entrance.specs.declared.Judged.{Judged}
 use Rattle.entrance.specs.declared.Judged.the-variants.{Refused, Accepted}
 use Rattle.solver.specs.declared.Outcome.{Outcome}
 use Rattle.solver.specs.declared.Outcome.the-variants.{Refused, Answered}
-use Rattle.solver.specs.Entries.{entriesOf}
+use Rattle.solver.specs.Crossed.{entriesOf}
 use Rattle.solver.specs.Table.{lateChecks}
 use Rattle.solver.proofs.Numbering.{few, count-is, most-eight}
 use Rattle.solver.specs.Solve.{Solved, refused, answered, settledOf, after, solveOf, longest, refusalFor, refusalBytes, recordAfter, recordOf, Response, responseOf}

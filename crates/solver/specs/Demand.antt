@@ -23,7 +23,8 @@ use Rattle.sweep.specs.declared.bisection.Bracket.{Bracket}
 use Rattle.velocity.specs.Chosen.{upperChosen, vectorFinite}
 use Rattle.solver.specs.declared.Outcome.{Outcome}
 use Rattle.solver.specs.declared.Outcome.the-variants.{Refused, Answered}
-use Rattle.solver.specs.Entries.{placeOf, sidesOf, lastStation, velocitiesAt, endNumber, entryFor}
+use Rattle.entries.specs.Entries.{placeOf, velocitiesAt, endNumber, entryFor}
+use Rattle.solver.specs.Crossed.{sidesOf, lastStation}
 use Rattle.solver.specs.Table.{lateChecks}
 use Rattle.solver.specs.Solve.{Solved, solveOf, refusalFor, recordOf, Response, responseOf}
 

@@ -1,4 +1,4 @@
-pub mod Entries
+pub mod Crossed
 pub mod Table
 pub mod Internals
 pub mod Solve

@@ -14,7 +14,7 @@ use Rattle.entrance.specs.declared.Judged.{Judged}
 use Rattle.entrance.specs.declared.Judged.the-variants.{Refused, Accepted}
 use Rattle.solver.specs.declared.Outcome.{Outcome}
 use Rattle.solver.specs.declared.Outcome.the-variants.{Refused, Answered}
-use Rattle.solver.specs.Entries.{entriesOf}
+use Rattle.solver.specs.Crossed.{entriesOf}
 use Rattle.solver.specs.Table.{lateChecks}
 
 -- what a call returns, and what the answer buffer then holds

@@ -7,7 +7,8 @@ use lib.ListN.{length}
 use Rattle.entrance.specs.Judge.{Check, check}
 use Rattle.entrance.specs.declared.Problem.{Problem}
 use Rattle.sweep.specs.Crossings.{crossings, someVoid}
-use Rattle.solver.specs.Entries.{sidesOf, lastStation, bracketsOf, finiteFor, every}
+use Rattle.entries.specs.Entries.{finiteFor, every}
+use Rattle.solver.specs.Crossed.{sidesOf, lastStation, bracketsOf}
 
 -- how many crossings there are, whether some station is void, and whether all velocities at the chosen ends are finite
 abbrev pub crossingCount : Problem → ℕ

@@ -1,20 +1,14 @@
 // A question's bytes to its answer or its refusal (01): the entrance checks, the sweep, and for each
 // crossing its bracket, the chosen end and the velocities there.
 ghost use mathlib.Core.Path.{_≡_};
-ghost use Prim.Native.Nat.{_≤_};
-ghost use lib.ListN.{length};
 ghost use Rattle.solver.specs.Solve.{settledOf, solveOf};
 
-mod answers;
-mod entries;
 mod host;
 mod numbers;
 mod responses;
 
-use answers::write_answer;
 use entrance::Judged;
 use entrance::Problem;
-use numbers::all_finite;
 use numbers::late_number;
 pub use responses::respond;
 
@@ -37,18 +31,17 @@ pub fn solve(question: &[u8], answer: &mut [u8]) -> Outcome
 
 // Solves a problem that is past the entrance checks.
 fn settle(p: Problem, answer: &mut [u8]) -> Outcome
-    requires { ⌜ 528 ≤ length (now answer) ⌝ }
     ensures { λ r. ⌜ (r ≡ settledOf p (now (answer .entry)) .outcome) × (now (answer .exit) ≡ settledOf p (now (answer .entry)) .buffer) ⌝ }
 {
     let triangle = p.triangle;
     let found = sweep::find_crossings(triangle, p.revolutions, p.wanted);
     let list = found.list;
     let walk = found.walk;
-    let finite = all_finite(p, list, found.count);
+    let finite = entries::all_finite(p, list, found.count);
     let number = late_number(walk, found.count, finite);
     if number != 0 {
         return Outcome::Refused(number);
     }
-    write_answer(p, list, found.count, answer);
+    entries::write_answer(p, list, found.count, answer);
     Outcome::Answered(found.count as u16)
 }

@@ -2,11 +2,8 @@
 use borrow.Author.Needs.{needs}
 use mathlib.Core.Path.{_≡_, sym, ap, _∙_}
 use mathlib.Core.List.{List}
-use Prim.Native.Nat.{ℕ, _≤_}
-use lib.ListN.{length}
 use Rattle.entrance.specs.Judge.{judgeOf}
 use Rattle.entrance.specs.declared.Judged.{Judged}
-use Rattle.entrance.proofs.Table.{accepted-room}
 use Rattle.solver.specs.Solve.{Solved, after, solveOf}
 use Rattle.solver.proofs.solve.Statement.{statement}
 use Rattle.solver.proofs.solve.Tie as tie
@@ -21,10 +18,7 @@ enum-known-problem : tie.Need-enum-known-problem
 enum-known-problem c = search needs
 
 settle-requires : tie.Need-settle-requires
-settle-requires c κs =
-    let d = c .before .before .before .before in
-    let a = d .before .before .before .args in
-    accepted-room (a .question .now) (length (a .answer .now)) _ (sym (d .judge .ensures) ∙ c .before .before .problem .given .1)
+settle-requires c κs = tt
 
 returns : tie.Need-returns
 unfolding solveOf

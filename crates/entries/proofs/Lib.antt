@@ -1,0 +1,2 @@
+pub mod BracketLists
+pub mod Written
