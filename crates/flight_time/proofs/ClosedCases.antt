@@ -8,7 +8,8 @@ use Rattle.float64.specs.Notation.{_⊖_, _⊗_, bits, 0F, 1F}
 use Rattle.float64.specs.Value.{magnitudeOf, finiteOf}
 use Rattle.float64.specs.Root.{rootOf}
 use Rattle.geometry.specs.declared.Triangle.{Triangle}
-use Rattle.flight_time.specs.Steps.{outsideRange, xOf, uOf, yOf, etaOf, c1Of, nextC, halvedOf, ratioOf, seriesFrom, seriesOf, s4Of, backOf, climbedOf, directOf, revolvedOf}
+use Rattle.hypergeometric.specs.Steps.{yOf, etaOf, c1Of, nextC, halvedOf, ratioOf, seriesFrom, seriesOf, s4Of, backOf, climbedOf}
+use Rattle.flight_time.specs.Steps.{outsideRange, xOf, uOf, directOf, revolvedOf}
 use Rattle.flight_time.specs.Time.{timeOf}
 use Rattle.flight_time.specs.declared.Place.{Place}
 use Rattle.flight_time.specs.declared.Place.the-variants.{Timed, Void}

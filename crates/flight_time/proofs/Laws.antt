@@ -7,13 +7,14 @@ use lib.IntN.{ℤ}
 use lib.Ieee.{Float}
 use Rattle.float64.specs.Value.{finiteOf}
 use Rattle.geometry.specs.declared.Triangle.{Triangle}
-use Rattle.flight_time.specs.Steps.{outsideRange, xOf, uOf, halvedOf, climbedOf, directOf, revolvedOf}
+use Rattle.hypergeometric.specs.Steps.{halvedOf, climbedOf}
+use Rattle.flight_time.specs.Steps.{outsideRange, xOf, uOf, directOf, revolvedOf}
 use Rattle.flight_time.specs.Time.{voidIf, afterStage, afterHalved, timeOf}
-use Rattle.flight_time.specs.declared.stages.Angles.{Angles}
-use Rattle.flight_time.specs.declared.stages.Stage.{Stage}
-use Rattle.flight_time.specs.declared.stages.Stage.the-variants.{Number, Void}
-use Rattle.flight_time.specs.declared.stages.Halved.{Halved}
-use Rattle.flight_time.specs.declared.stages.Halved.the-variants.{Thrice, Void}
+use Rattle.hypergeometric.specs.declared.stages.Angles.{Angles}
+use Rattle.hypergeometric.specs.declared.stages.Stage.{Stage}
+use Rattle.hypergeometric.specs.declared.stages.Stage.the-variants.{Number, Void}
+use Rattle.hypergeometric.specs.declared.stages.Halved.{Halved}
+use Rattle.hypergeometric.specs.declared.stages.Halved.the-variants.{Thrice, Void}
 use Rattle.flight_time.specs.declared.Place.{Place}
 use Rattle.flight_time.specs.declared.Place.the-variants.{Timed, Void}
 

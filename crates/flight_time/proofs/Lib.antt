@@ -1,3 +1,2 @@
-mod Ratios
 pub mod Laws
 pub mod ClosedCases

@@ -3,14 +3,16 @@ use Prim.Native.Nat.{ℕ}
 use mathlib.Core.Bool.{Bool, true, false, not}
 use lib.IntN.{ℤ}
 use lib.Ieee.{Float}
+use Rattle.float64.specs.Notation.{bitsOf}
 use Rattle.float64.specs.Value.{finiteOf}
 use Rattle.geometry.specs.declared.Triangle.{Triangle}
-use Rattle.flight_time.specs.Steps.{outsideRange, xOf, uOf, halvedOf, climbedOf, directOf, revolvedOf}
-use Rattle.flight_time.specs.declared.stages.Angles.{Angles}
-use Rattle.flight_time.specs.declared.stages.Stage.{Stage}
-use Rattle.flight_time.specs.declared.stages.Stage.the-variants.{Number, Void}
-use Rattle.flight_time.specs.declared.stages.Halved.{Halved}
-use Rattle.flight_time.specs.declared.stages.Halved.the-variants.{Thrice, Void}
+use Rattle.hypergeometric.specs.Steps.{halvedOf, climbedOf}
+use Rattle.flight_time.specs.Steps.{outsideRange, xOf, uOf, directOf, revolvedOf}
+use Rattle.hypergeometric.specs.declared.stages.Angles.{Angles}
+use Rattle.hypergeometric.specs.declared.stages.Stage.{Stage}
+use Rattle.hypergeometric.specs.declared.stages.Stage.the-variants.{Number, Void}
+use Rattle.hypergeometric.specs.declared.stages.Halved.{Halved}
+use Rattle.hypergeometric.specs.declared.stages.Halved.the-variants.{Thrice, Void}
 use Rattle.flight_time.specs.declared.Place.{Place}
 use Rattle.flight_time.specs.declared.Place.the-variants.{Timed, Void}
 
@@ -37,3 +39,8 @@ timeOf t k m =
     afterStage (climbedOf v) (λ g.
     afterStage (revolvedOf (directOf (t .lambda) (v .eta) g) u m) (λ time.
     voidIf (not (finiteOf time)) (Timed time)))))
+
+-- the bits of a time; where there is none, all ones, a choice of ours: a NaN's pattern, and no time is a NaN
+unfoldable pub placeBits : Place → ℕ
+placeBits (Timed t) = bitsOf t
+placeBits Void = 0xFFFF_FFFF_FFFF_FFFF

@@ -2,20 +2,14 @@
 // x = k / 2^32, or void where the steps give none.
 ghost use mathlib.Core.Path.{_≡_};
 ghost use Rattle.flight_time.specs.Steps.{outsideRange, xOf, uOf, directOf};
-ghost use Rattle.flight_time.specs.Time.{timeOf};
+ghost use Rattle.flight_time.specs.Time.{timeOf, placeBits};
 
-mod angles;
 mod revolutions;
-mod series;
-mod stages;
 
-use angles::climbed;
-use angles::halved;
-pub use angles::y_at;
 use geometry::Triangle;
+use hypergeometric::Halved;
+use hypergeometric::Stage;
 use revolutions::revolved;
-use stages::Halved;
-use stages::Stage;
 
 // A place has a time, a finite number, or is void.
 pub enum Place {
@@ -51,10 +45,10 @@ pub fn time_at(triangle: Triangle, k: i64, m: u16) -> Place
     }
     let x = x_at(k);
     let u = u_at(x);
-    let Halved::Thrice(v) = halved(l, x, u) else {
+    let Halved::Thrice(v) = hypergeometric::halved(l, x, u) else {
         return Place::Void;
     };
-    let Stage::Number(g) = climbed(v) else {
+    let Stage::Number(g) = hypergeometric::climbed(v) else {
         return Place::Void;
     };
     let Stage::Number(time) = revolved(direct(l, v.eta, g), u, m) else {
@@ -64,6 +58,16 @@ pub fn time_at(triangle: Triangle, k: i64, m: u16) -> Place
         Place::Timed(time)
     } else {
         Place::Void
+    }
+}
+
+// The bits of a place's time, and all ones where it is void: a NaN's pattern, and no time is a NaN.
+pub fn place_bits(place: Place) -> u64
+    ensures { λ r. ⌜ r ≡ placeBits place ⌝ }
+{
+    match place {
+        Place::Timed(time) => float64::to_bits(time),
+        Place::Void => 0xFFFF_FFFF_FFFF_FFFF,
     }
 }
 

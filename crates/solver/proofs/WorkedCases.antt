@@ -22,7 +22,8 @@ use Rattle.entrance.specs.Judge.{checks, longWay, firstOf, judgeOf}
 use Rattle.entrance.proofs.Table.{accepted-exactly, accepted-when}
 use Rattle.entrance.proofs.ClosedCases.{HALF, ONE, TWO, flat, asked}
 use Rattle.flight_time.proofs.ClosedCases.{withLambda}
-use Rattle.flight_time.specs.Steps.{outsideRange, xOf, uOf, yOf, etaOf, c1Of, nextC, halvedOf, ratioOf, seriesFrom, seriesOf, s4Of, backOf, climbedOf, directOf, revolvedOf}
+use Rattle.hypergeometric.specs.Steps.{yOf, etaOf, c1Of, nextC, halvedOf, ratioOf, seriesFrom, seriesOf, s4Of, backOf, climbedOf}
+use Rattle.flight_time.specs.Steps.{outsideRange, xOf, uOf, directOf, revolvedOf}
 use Rattle.flight_time.specs.Time.{timeOf}
 use Rattle.flight_time.specs.declared.Place.{Place}
 use Rattle.flight_time.specs.declared.Place.the-variants.{Timed, Void}

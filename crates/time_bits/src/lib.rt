@@ -3,7 +3,6 @@
 ghost use mathlib.Core.Path.{_≡_};
 ghost use Rattle.time_bits.specs.SweepNumber.{walkNumber, sweepNumberOf};
 ghost use Rattle.time_bits.specs.TimeBits.{withLambda, timeBitsOf};
-use flight_time::Place;
 use geometry::Triangle;
 use sweep::Walk;
 
@@ -28,10 +27,7 @@ pub fn with_lambda(b: u64) -> Triangle
 pub extern "C" fn lambert_time_bits(b: u64, k: i64, m: u16) -> u64
     ensures { λ r. ⌜ r ≡ timeBitsOf b k m ⌝ }
 {
-    match flight_time::time_at(with_lambda(b), k, m) {
-        Place::Timed(t) => float64::to_bits(t),
-        Place::Void => 0xFFFF_FFFF_FFFF_FFFF,
-    }
+    flight_time::place_bits(flight_time::time_at(with_lambda(b), k, m))
 }
 
 fn walk_number(walk: Walk) -> u64

@@ -6,7 +6,8 @@ use Rattle.float64.specs.declared.Vector.{Vector}
 use Rattle.geometry.specs.Vectors.{cross, orNan, rootOrNan}
 use Rattle.geometry.specs.declared.Triangle.{Triangle}
 use Rattle.geometry.specs.declared.Frame.{Frame}
-use Rattle.flight_time.specs.Steps.{xOf, uOf, yOf}
+use Rattle.hypergeometric.specs.Steps.{yOf}
+use Rattle.flight_time.specs.Steps.{xOf, uOf}
 use Rattle.velocity.specs.declared.Speeds.{Speeds}
 use Rattle.velocity.specs.declared.Velocities.{Velocities}
 

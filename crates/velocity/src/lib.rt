@@ -62,7 +62,7 @@ fn gamma(mu: f64, semiperimeter: f64) -> f64
 fn y_or_nan(l: f64, x: f64) -> f64
     ensures { λ r. ⌜ r ≡ yOrNan l x ⌝ }
 {
-    geometry::or_nan(flight_time::y_at(l, flight_time::u_at(x)))
+    geometry::or_nan(hypergeometric::y_at(l, flight_time::u_at(x)))
 }
 
 fn speeds_at(gamma: f64, t: Triangle, radius1: f64, radius2: f64, x: f64, y: f64) -> Speeds
