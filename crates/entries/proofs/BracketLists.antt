@@ -7,7 +7,7 @@ use native.Mathlib.Nat.{zero-min, min-zero, suc-min-suc}
 use native.Mathlib.Numerals.{add-one}
 use lib.ListN.{length, take, getD}
 use lib.Seq.{take-suc}
-use Rattle.sweep.specs.declared.bisection.Bracket.{Bracket}
+use Rattle.bisection.specs.declared.Bracket.{Bracket}
 use Rattle.entries.specs.Entries.{every}
 
 and-assoc : (a b c : Bool) → (a && b) && c ≡ a && (b && c)

@@ -15,7 +15,7 @@ use Rattle.records.specs.declared.Entry.{Entry}
 use Rattle.records.proofs.Sizes.{head-length, entry-length}
 use Rattle.records.proofs.Answers.{entries-length, entries-append, answer-length}
 use Rattle.entrance.specs.declared.Problem.{Problem}
-use Rattle.sweep.specs.declared.bisection.Bracket.{Bracket}
+use Rattle.bisection.specs.declared.Bracket.{Bracket}
 use Rattle.entries.specs.Entries.{entryFor}
 
 -- ---- bytes laid over a buffer, and over a part of one

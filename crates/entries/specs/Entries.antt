@@ -9,7 +9,7 @@ use Rattle.entrance.specs.declared.Problem.{Problem}
 use Rattle.flight_time.specs.Time.{timeOf}
 use Rattle.flight_time.specs.declared.Place.{Place}
 use Rattle.flight_time.specs.declared.Place.the-variants.{Timed, Void}
-use Rattle.sweep.specs.declared.bisection.Bracket.{Bracket}
+use Rattle.bisection.specs.declared.Bracket.{Bracket}
 use Rattle.velocity.specs.Chosen.{upperChosen, velocitiesFinite}
 use Rattle.velocity.specs.Velocities.{velocitiesOf}
 use Rattle.velocity.specs.declared.Velocities.{Velocities}

@@ -7,8 +7,8 @@ ghost use Rattle.records.specs.Records.{answerBytes};
 ghost use Rattle.entries.specs.Entries.{entryFor};
 use crate::at_most_eight;
 use crate::entry_for;
+use bisection::Bracket;
 use entrance::Problem;
-use sweep::Bracket;
 
 // Writes the head, and the entries of the first `count` brackets after it; without room for them it
 // changes nothing.

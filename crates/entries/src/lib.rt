@@ -8,10 +8,10 @@ ghost use Rattle.entries.specs.Entries.{placeOf, upperOf, takesUpper, ve
 mod answers;
 
 pub use answers::write_answer;
+use bisection::Bracket;
 use entrance::Problem;
 use flight_time::Place;
 use records::Entry;
-use sweep::Bracket;
 use velocity::Velocities;
 
 // The time at the place k of a problem, or that it is void.

@@ -18,17 +18,18 @@ use Rattle.flight_time.specs.Time.{timeOf}
 use Rattle.flight_time.specs.declared.Place.{Place}
 use Rattle.flight_time.specs.declared.Place.the-variants.{Timed, Void}
 use Rattle.float64.specs.Notation.{_≺_}
-use Rattle.sweep.specs.Sides.{sideOf, sideAt, opposite, isUnknown}
-use Rattle.sweep.specs.declared.side.Side.{Side}
-use Rattle.sweep.specs.declared.side.Side.the-variants.{Below, NotBelow, Unknown}
-use Rattle.sweep.proofs.Halving.{lower-known, upper-known}
-use Rattle.sweep.specs.Stations.{stationOf}
-use Rattle.sweep.specs.Crossings.{crosses, crossings, bracketOf, brackets}
-use Rattle.sweep.specs.Brackets.{IsBracket}
+use Rattle.bisection.specs.Sides.{sideOf, sideAt, opposite, isUnknown}
+use Rattle.bisection.specs.declared.side.Side.{Side}
+use Rattle.bisection.specs.declared.side.Side.the-variants.{Below, NotBelow, Unknown}
+use Rattle.bisection.proofs.Halving.{lower-known, upper-known}
+use Rattle.bisection.specs.Stations.{stationOf}
+use Rattle.bisection.specs.Pairs.{crosses, bracketOf}
+use Rattle.sweep.specs.Crossings.{crossings, brackets}
+use Rattle.bisection.specs.Brackets.{IsBracket}
 use Rattle.sweep.specs.Listed.{Listed}
-use Rattle.sweep.specs.declared.bisection.Bracket.{Bracket}
+use Rattle.bisection.specs.declared.Bracket.{Bracket}
 use Rattle.sweep.proofs.AnyTriangle.{known-finite}
-use Rattle.sweep.proofs.BracketLaws.{bracket-holds}
+use Rattle.bisection.proofs.BracketLaws.{bracket-holds}
 use Rattle.velocity.specs.Chosen.{upperChosen, velocitiesFinite}
 use Rattle.entries.specs.Entries.{placeOf, upperOf, takesUpper, velocitiesAt, velocitiesFor, finiteFor, endNumber, entryFor, every}
 use Rattle.solver.specs.Crossed.{sidesOf, lastStation, bracketsOf, entriesOf}

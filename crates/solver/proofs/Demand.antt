@@ -22,11 +22,12 @@ use Rattle.entrance.specs.declared.Problem.{Problem}
 use Rattle.entrance.specs.declared.Judged.{Judged}
 use Rattle.entrance.specs.declared.Judged.the-variants.{Refused, Accepted}
 use Rattle.entrance.proofs.Table.{Rising, none, more, UpTo, above, first-is, is-first, none-first, first-none, accepted-exactly, accepted-room}
-use Rattle.sweep.specs.Sides.{isUnknown}
-use Rattle.sweep.specs.Stations.{stationOf}
+use Rattle.bisection.specs.Sides.{isUnknown}
+use Rattle.bisection.specs.Stations.{stationOf}
 use Rattle.sweep.specs.Listed.{Listed}
 use Rattle.sweep.proofs.Corners.{no-place}
-use Rattle.sweep.specs.Crossings.{crosses, crossings}
+use Rattle.bisection.specs.Pairs.{crosses}
+use Rattle.sweep.specs.Crossings.{crossings}
 use Rattle.sweep.proofs.Theorems.{clash, false-by, neighbours, listed-exactly, rises, counted, none-exactly, void-at as some-at, at-void as some-void}
 use Rattle.solver.specs.declared.Outcome.{Outcome}
 use Rattle.solver.specs.declared.Outcome.the-variants.{Refused, Answered}

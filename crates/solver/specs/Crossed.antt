@@ -4,11 +4,11 @@ use mathlib.Core.List.{List, map}
 use lib.IntN.{ℤ}
 use Rattle.records.specs.declared.Entry.{Entry}
 use Rattle.entrance.specs.declared.Problem.{Problem}
-use Rattle.sweep.specs.Sides.{sideAt}
-use Rattle.sweep.specs.Stations.{lastOf}
+use Rattle.bisection.specs.Sides.{sideAt}
+use Rattle.bisection.specs.Stations.{lastOf}
 use Rattle.sweep.specs.Crossings.{brackets}
-use Rattle.sweep.specs.declared.bisection.Bracket.{Bracket}
-use Rattle.sweep.specs.declared.side.Side.{Side}
+use Rattle.bisection.specs.declared.Bracket.{Bracket}
+use Rattle.bisection.specs.declared.side.Side.{Side}
 use Rattle.entries.specs.Entries.{entryFor}
 
 -- which side of the wanted time each place of a problem is on

@@ -15,11 +15,12 @@ use Rattle.entrance.specs.Judge.{Check, checks, longWay, problemOf}
 use Rattle.entrance.specs.Table.{appliesIn, conditionOf, First, Exactly}
 use Rattle.entrance.specs.declared.Problem.{Problem}
 use Rattle.flight_time.specs.declared.Place.the-variants.{Timed, Void}
-use Rattle.sweep.specs.Stations.{stationOf}
-use Rattle.sweep.specs.Crossings.{crossings, bracketOf}
-use Rattle.sweep.specs.Brackets.{IsBracket}
+use Rattle.bisection.specs.Stations.{stationOf}
+use Rattle.bisection.specs.Pairs.{bracketOf}
+use Rattle.sweep.specs.Crossings.{crossings}
+use Rattle.bisection.specs.Brackets.{IsBracket}
 use Rattle.sweep.specs.Listed.{Listed, Rising}
-use Rattle.sweep.specs.declared.bisection.Bracket.{Bracket}
+use Rattle.bisection.specs.declared.Bracket.{Bracket}
 use Rattle.velocity.specs.Chosen.{upperChosen, vectorFinite}
 use Rattle.solver.specs.declared.Outcome.{Outcome}
 use Rattle.solver.specs.declared.Outcome.the-variants.{Refused, Answered}

@@ -17,13 +17,14 @@ use Rattle.flight_time.specs.Time.{timeOf, voidIf}
 use Rattle.flight_time.specs.declared.Place.{Place}
 use Rattle.flight_time.specs.declared.Place.the-variants.{Timed, Void}
 use Rattle.flight_time.proofs.Laws.{timed-finite}
-use Rattle.sweep.specs.declared.side.Side.{Side}
-use Rattle.sweep.specs.declared.side.Side.the-variants.{Below, NotBelow, Unknown}
+use Rattle.bisection.specs.declared.side.Side.{Side}
+use Rattle.bisection.specs.declared.side.Side.the-variants.{Below, NotBelow, Unknown}
 use Rattle.sweep.specs.declared.Walk.{Walk}
 use Rattle.sweep.specs.declared.Walk.the-variants.{AllTimed, SomeVoid, NinthFound}
-use Rattle.sweep.specs.Sides.{sideOf, sideAt, opposite, isUnknown}
-use Rattle.sweep.specs.Stations.{stationOf, lastOf}
-use Rattle.sweep.specs.Crossings.{crosses, crossings, sweepOf}
+use Rattle.bisection.specs.Sides.{sideOf, sideAt, opposite, isUnknown}
+use Rattle.bisection.specs.Stations.{stationOf, lastOf}
+use Rattle.bisection.specs.Pairs.{crosses}
+use Rattle.sweep.specs.Crossings.{crossings, sweepOf}
 use Rattle.sweep.proofs.Theorems.{clash, counted, none-exactly, void-exactly}
 use Rattle.sweep.proofs.Corners.{none-below, below-exactly}
 

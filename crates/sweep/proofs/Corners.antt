@@ -10,11 +10,12 @@ use Rattle.float64.specs.Notation.{_≺_, _≈_}
 use Rattle.float64.proofs.Comparisons.{above-not-below, equal-not-below}
 use Rattle.flight_time.specs.declared.Place.{Place}
 use Rattle.flight_time.specs.declared.Place.the-variants.{Timed, Void}
-use Rattle.sweep.specs.declared.side.Side.{Side}
-use Rattle.sweep.specs.declared.side.Side.the-variants.{Below, NotBelow, Unknown}
-use Rattle.sweep.specs.Sides.{sideOf, opposite, isUnknown}
-use Rattle.sweep.specs.Stations.{stationOf}
-use Rattle.sweep.specs.Crossings.{crosses, sweepOf}
+use Rattle.bisection.specs.declared.side.Side.{Side}
+use Rattle.bisection.specs.declared.side.Side.the-variants.{Below, NotBelow, Unknown}
+use Rattle.bisection.specs.Sides.{sideOf, opposite, isUnknown}
+use Rattle.bisection.specs.Stations.{stationOf}
+use Rattle.bisection.specs.Pairs.{crosses}
+use Rattle.sweep.specs.Crossings.{sweepOf}
 use Rattle.sweep.proofs.Theorems.{none-exactly}
 
 -- ---- sides

@@ -1,9 +1,5 @@
-pub mod Places
-pub mod Halving
-pub mod Intervals
 pub mod Lists
 pub mod Turns
-pub mod BracketLaws
 pub mod Keeping
 pub mod Theorems
 pub mod Corners

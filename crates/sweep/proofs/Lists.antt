@@ -11,12 +11,11 @@ use lib.Dec.{ltb}
 use lib.ListN.{length, take, set, replicate, length-append}
 use lib.Seq.{take-all, take-at, set-append-seam, append-snoc}
 use lib.IntN.{ℤ}
-use Rattle.sweep.specs.declared.bisection.Bracket.{Bracket}
-use Rattle.sweep.specs.declared.side.Side.{Side}
+use Rattle.bisection.specs.declared.Bracket.{Bracket}
+use Rattle.bisection.specs.declared.side.Side.{Side}
 use Rattle.sweep.specs.declared.Walk.{Walk}
-use Rattle.sweep.specs.Sides.{isUnknown}
-use Rattle.sweep.specs.Stations.{stationOf}
-use Rattle.sweep.specs.Crossings.{upTo, keep, some, crosses, crossings, someVoid, bracketOf, brackets, blank, eight, walkOf, reported, sweepOf}
+use Rattle.bisection.specs.Pairs.{crosses, bracketOf}
+use Rattle.sweep.specs.Crossings.{upTo, keep, some, crossings, someVoid, brackets, blank, eight, walkOf, reported, sweepOf}
 
 -- ---- lists
 
@@ -83,26 +82,12 @@ a-ninth bs rest b u void h =
 -- ---- stations
 
 module _ (σ : ℤ → Side) where
-  brackets-next : (i : ℕ) → brackets σ (i + 1) ≡ brackets σ i ++ cond (crosses σ i) (bracketOf σ i ∷ []) []
+  pub brackets-next : (i : ℕ) → brackets σ (i + 1) ≡ brackets σ i ++ cond (crosses σ i) (bracketOf σ i ∷ []) []
   unfolding brackets crossings
   brackets-next i =
       ap (map (bracketOf σ)) (keep-next (crosses σ) i)
       ∙ map-append (bracketOf σ) (crossings σ i) (cond (crosses σ i) (i ∷ []) [])
       ∙ ap (λ bs. brackets σ i ++ bs) (map-cond (bracketOf σ) (crosses σ i) i)
-
-  pub brackets-yes : (i : ℕ) → crosses σ i ≡ true → brackets σ (i + 1) ≡ brackets σ i ++ (bracketOf σ i ∷ [])
-  brackets-yes i e = rw (brackets-next i, e)
-
-  pub brackets-no : (i : ℕ) → crosses σ i ≡ false → brackets σ (i + 1) ≡ brackets σ i
-  brackets-no i e = rw (brackets-next i, e, append-nil)
-
-  pub void-first : someVoid σ 0 ≡ isUnknown (σ (stationOf 0))
-  unfolding some upTo someVoid
-  void-first = or-false (isUnknown (σ (stationOf 0)))
-
-  pub void-next : (i : ℕ) → someVoid σ (i + 1) ≡ someVoid σ i || isUnknown (σ (stationOf (i + 1)))
-  unfolding someVoid
-  void-next i = some-next (λ j. isUnknown (σ (stationOf j))) (i + 1)
 
   -- the brackets found so far are the first of all
   later : (i k : ℕ) → (rest : List Bracket) × (brackets σ (i + k) ≡ brackets σ i ++ rest)
@@ -127,6 +112,7 @@ module _ (σ : ℤ → Side) where
   left-at i last u h e y =
       let j : last ≡ i + 1 + (last - (i + 1)) = omega arith in
       let r = later (i + 1) (last - (i + 1)) in
+      let first : brackets σ (i + 1) ≡ brackets σ i ++ (bracketOf σ i ∷ []) = rw (brackets-next i, y) in
       a-ninth (brackets σ i) (r .0) (bracketOf σ i) u (someVoid σ last) e
       ∙ ap (λ bs. reported bs (someVoid σ last))
-      (sym (ap (brackets σ) j ∙ r .1 ∙ ap (λ bs. bs ++ r .0) (brackets-yes i y) ∙ append-snoc (brackets σ i) (bracketOf σ i) (r .0)))
+      (sym (ap (brackets σ) j ∙ r .1 ∙ ap (λ bs. bs ++ r .0) first ∙ append-snoc (brackets σ i) (bracketOf σ i) (r .0)))

@@ -13,19 +13,20 @@ use native.Mathlib.Nat.{add-zero, add-assoc}
 use native.Mathlib.Numerals.{add-one}
 use lib.IntN.{ℤ, pos, negℤ, _+ℤ_, +ℤ-assoc, +ℤ-idr}
 use Rattle.flight_time.specs.Steps.{lowest, highest, highestRevolving}
-use Rattle.sweep.specs.declared.bisection.Bracket.{Bracket}
-use Rattle.sweep.specs.declared.side.Side.{Side}
-use Rattle.sweep.specs.declared.side.Side.the-variants.{Below, NotBelow, Unknown}
+use Rattle.bisection.specs.declared.Bracket.{Bracket}
+use Rattle.bisection.specs.declared.side.Side.{Side}
+use Rattle.bisection.specs.declared.side.Side.the-variants.{Below, NotBelow, Unknown}
 use Rattle.sweep.specs.declared.Walk.{Walk}
 use Rattle.sweep.specs.declared.Walk.the-variants.{AllTimed, SomeVoid, NinthFound}
-use Rattle.sweep.specs.Sides.{opposite, isUnknown}
-use Rattle.sweep.specs.Stations.{stationOf, lastOf}
-use Rattle.sweep.specs.Crossings.{upTo, keep, some, crosses, crossings, someVoid, bracketOf, brackets, blank, eight, walkOf, reported, sweepOf}
+use Rattle.bisection.specs.Sides.{opposite, isUnknown}
+use Rattle.bisection.specs.Stations.{stationOf, lastOf}
+use Rattle.bisection.specs.Pairs.{crosses, bracketOf}
+use Rattle.sweep.specs.Crossings.{upTo, keep, some, crossings, someVoid, brackets, blank, eight, walkOf, reported, sweepOf}
 use Rattle.sweep.specs.Listed.{Listed, Rising}
-use Rattle.sweep.specs.Brackets.{IsBracket}
-use Rattle.sweep.proofs.Halving.{same-side, lower-known, upper-known}
-use Rattle.sweep.proofs.Places.{next-station}
-use Rattle.sweep.proofs.BracketLaws.{bracket-holds}
+use Rattle.bisection.specs.Brackets.{IsBracket}
+use Rattle.bisection.proofs.Halving.{same-side, lower-known, upper-known}
+use Rattle.bisection.proofs.Places.{next-station}
+use Rattle.bisection.proofs.BracketLaws.{bracket-holds}
 use Rattle.sweep.proofs.Keeping.{listed-up, up-listed, rising-up, kept, keeps, rising-keep, some-yes, some-found}
 
 -- no Boolean is both

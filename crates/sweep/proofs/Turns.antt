@@ -1,82 +1,98 @@
 -- The invariant of the walk over the stations: how it begins, what a turn makes of it, and what it says where the walk ends.
 use mathlib.Core.Path.{_≡_, refl, sym, ap, _∙_, subst}
-use mathlib.Core.Bool.{Bool, true, false, _||_}
-use mathlib.Core.List.{List, [], _∷_, _++_}
-use Prim.Native.Nat.{ℕ, _+_, _-_, _≤_, _<_}
+use mathlib.Core.Bool.{Bool, true, false, cond, _||_}
+use mathlib.Core.List.{List, [], _∷_, _++_, append-nil}
+use Prim.Native.Nat.{ℕ, zero, suc, _+_, _-_, _≤_, _<_}
+use native.Mathlib.Numerals.{add-one}
 use native.Mathlib.Omega.{arith}
 use lib.Arith.{lt-of-le-ne}
 use lib.ListN.{length, set, length-append}
 use lib.IntN.{ℤ}
-use Rattle.sweep.specs.declared.bisection.Bracket.{Bracket}
-use Rattle.sweep.specs.declared.side.Side.{Side}
+use Rattle.bisection.specs.declared.Bracket.{Bracket}
+use Rattle.bisection.specs.declared.side.Side.{Side}
+use Rattle.bisection.specs.declared.side.Side.the-variants.{Unknown}
+use Rattle.bisection.specs.Sides.{opposite, isUnknown}
+use Rattle.bisection.specs.Stations.{stationOf}
+use Rattle.bisection.specs.Pairs.{crosses, bracketOf}
 use Rattle.sweep.specs.declared.Walk.{Walk}
-use Rattle.sweep.specs.Sides.{isUnknown}
-use Rattle.sweep.specs.Stations.{stationOf}
-use Rattle.sweep.specs.Crossings.{upTo, keep, crosses, crossings, someVoid, bracketOf, brackets, blank, eight, walkOf, sweepOf}
-use Rattle.sweep.proofs.Lists.{eight-set, brackets-yes, brackets-no, void-first, void-next, all-passed, left-at}
+use Rattle.sweep.specs.Crossings.{upTo, keep, some, crossings, someVoid, brackets, blank, eight, walkOf, sweepOf}
+use Rattle.sweep.proofs.Lists.{some-next, eight-set, brackets-next, all-passed, left-at}
 
--- the pairs below i are passed: their brackets are listed, and no ninth was among them
-pub record Passed (σ : ℤ → Side) (last : ℕ) (list : List Bracket) (count : ℕ) (low : Side) (void ninth : Bool) (i : ℕ) : Type 0 where
-  pub within : i ≤ last
-  pub here : low ≡ σ (stationOf i)
-  pub found : list ≡ eight (brackets σ i)
-  pub counted : count ≡ length (brackets σ i)
+-- the side of the station before station i; before the first there is none
+unfoldable pub before : (ℤ → Side) → ℕ → Side
+before σ zero = Unknown
+before σ (suc i) = σ (stationOf i)
+
+-- the stations below i are passed: the brackets of their pairs are listed, and no ninth was among them
+pub record Passed (σ : ℤ → Side) (last : ℕ) (list : List Bracket) (count : ℕ) (void : Bool) (low : Side) (i : ℕ) : Type 0 where
+  pub within : i ≤ last + 1
+  pub here : low ≡ before σ i
+  pub found : list ≡ eight (brackets σ (i - 1))
+  pub counted : count ≡ length (brackets σ (i - 1))
   pub most : count ≤ 8
-  pub voided : void ≡ someVoid σ i
-  pub none : ninth ≡ false
+  pub voided : void ≡ some (λ j. isUnknown (σ (stationOf j))) (upTo i)
 
-pub starts : (σ : ℤ → Side) (last : ℕ) {low : Side} {void : Bool} → low ≡ σ (stationOf 0) → void ≡ isUnknown low →
-    Passed σ last (blank ∷ blank ∷ blank ∷ blank ∷ blank ∷ blank ∷ blank ∷ blank ∷ []) 0 low void false 0
-unfolding brackets crossings keep upTo
-starts σ last h v =
-    record {
-      within = omega arith;
-      here = h;
-      found = refl;
-      counted = refl;
-      most = omega arith;
-      voided = v ∙ ap isUnknown h ∙ sym (void-first σ);
-      none = refl;
-    }
+pub starts : (σ : ℤ → Side) (last : ℕ) → Passed σ last (blank ∷ blank ∷ blank ∷ blank ∷ blank ∷ blank ∷ blank ∷ blank ∷ []) 0 false Unknown 0
+unfolding before brackets crossings keep some upTo
+starts σ last = record { within = omega arith; here = refl; found = refl; counted = refl; most = omega arith; voided = refl }
 
-module _ {σ : ℤ → Side} {last : ℕ} {list : List Bracket} {count : ℕ} {low : Side} {void ninth : Bool} {i : ℕ} (v : Passed σ last list count low void ninth i) where
-  -- every pair is passed
-  pub done : last ≤ i → record { list = list; count = count; walk = walkOf ninth void } ≡ sweepOf σ last
+-- what the pair below station i adds to the brackets
+added : (σ : ℤ → Side) (i : ℕ) → brackets σ i ≡ brackets σ (i - 1) ++ cond (opposite (before σ i) (σ (stationOf i))) (bracketOf σ (i - 1) ∷ []) []
+unfolding before brackets crossings keep upTo crosses
+added σ zero = refl
+added σ (suc j) =
+    let e : suc j - 1 ≡ j = omega arith in
+    rw e
+    (subst (λ (k : ℕ). brackets σ k ≡ brackets σ j ++ cond (opposite (σ (stationOf j)) (σ (stationOf k))) (bracketOf σ j ∷ []) []) (add-one j) (brackets-next σ j))
+
+-- there is a pair below station i, and it crosses
+pair-at : (σ : ℤ → Side) (i : ℕ) → opposite (before σ i) (σ (stationOf i)) ≡ true → (1 ≤ i) × (crosses σ (i - 1) ≡ true)
+unfolding before crosses
+pair-at σ zero e = absurd (let z : _≡_ {A = ℕ} 0 1 = cc e in omega (arith, z))
+pair-at σ (suc j) e = let k : suc j - 1 ≡ j = omega arith in (omega arith, rw (k, add-one j) e)
+
+module _ {σ : ℤ → Side} {last : ℕ} {list : List Bracket} {count : ℕ} {void : Bool} {low : Side} {i : ℕ} (v : Passed σ last list count void low i) where
+  -- every station is passed
+  pub done : last < i → record { list = list; count = count; walk = walkOf false void } ≡ sweepOf σ last
+  unfolding someVoid
   done h =
-      let e : i ≡ last = omega (arith, v .within) in
-      rw (v .found, v .counted, v .voided, v .none, e) (all-passed σ last (subst (λ (k : ℕ). length (brackets σ k) ≤ 8) e (omega (arith, v .counted, v .most))))
+      let e : i - 1 ≡ last = omega (arith, v .within) in
+      let f : i ≡ last + 1 = omega (arith, v .within) in
+      rw (v .found, v .counted, v .voided, e, f) (all-passed σ last (subst (λ (k : ℕ). length (brackets σ k) ≤ 8) e (omega (arith, v .counted, v .most))))
 
-  module _ (more : i < last) where
-    pub too-many : count ≡ 8 → crosses σ i ≡ true → record { list = list; count = count; walk = walkOf true void } ≡ sweepOf σ last
-    too-many e y = rw (v .found, e) (left-at σ i last void more (sym (v .counted) ∙ e) y)
+  module _ {high : Side} (h : high ≡ σ (stationOf i)) where
+    -- the pair below station i crosses
+    pub pair : opposite low high ≡ true → (1 ≤ i) × (crosses σ (i - 1) ≡ true)
+    pair o = pair-at σ i (rw (v .here, h) at o)
 
-    module _ {high : Side} {unknown : Bool} (h : high ≡ σ (stationOf (i + 1))) (u : unknown ≡ isUnknown high) where
-      next-void : void || unknown ≡ someVoid σ (i + 1)
-      next-void = rw (v .voided, u, h) (sym (void-next σ i))
+    pub too-many : i ≤ last → count ≡ 8 → opposite low high ≡ true → record { list = list; count = count; walk = walkOf true void } ≡ sweepOf σ last
+    too-many l e o = rw (v .found, e) (left-at σ (i - 1) last void (omega (arith, pair o .0)) (sym (v .counted) ∙ e) (pair o .1))
 
-      pub passed : crosses σ i ≡ false → Passed σ last list count high (void || unknown) ninth (i + 1)
-      passed y =
+    module _ {unknown : Bool} (u : unknown ≡ isUnknown high) (l : i ≤ last) where
+      -- the invariant past station i, with what the pair below it added
+      next : (list' : List Bracket) (count' : ℕ) → list' ≡ eight (brackets σ i) → count' ≡ length (brackets σ i) → count' ≤ 8 → Passed σ last list' count' (void || unknown) high (i + 1)
+      unfolding before
+      next list' count' f n m =
+          let e : i + 1 - 1 ≡ i = omega arith in
           record {
-            within = omega (arith, more);
-            here = h;
-            found = v .found ∙ ap eight (sym (brackets-no σ i y));
-            counted = v .counted ∙ ap length (sym (brackets-no σ i y));
-            most = v .most;
-            voided = next-void;
-            none = v .none;
+            within = omega (arith, l);
+            here = h ∙ ap (before σ) (sym (add-one i));
+            found = rw e f;
+            counted = rw e n;
+            most = m;
+            voided = rw (v .voided, u, h) (sym (some-next (λ j. isUnknown (σ (stationOf j))) i));
           }
 
-      pub listed : {b : Bracket} → crosses σ i ≡ true → (count ≡ 8 → ⊥) → b ≡ bracketOf σ i → Passed σ last (set list count b) (count + 1) high (void || unknown) ninth (i + 1)
-      listed {b} y f e =
+      pub passed : opposite low high ≡ false → Passed σ last list count (void || unknown) high (i + 1)
+      passed o =
+          let none : brackets σ i ≡ brackets σ (i - 1) = added σ i ∙ rw (← v .here, ← h, o, append-nil) in
+          next list count (rw none (v .found)) (rw none (v .counted)) (v .most)
+
+      pub listed : {b : Bracket} → opposite low high ≡ true → (count ≡ 8 → ⊥) → b ≡ bracketOf σ (i - 1) → Passed σ last (set list count b) (count + 1) (void || unknown) high (i + 1)
+      listed {b} o f e =
           let room : count < 8 = lt-of-le-ne (v .most) f in
-          record {
-            within = omega (arith, more);
-            here = h;
-            found =
-                rw (v .found, v .counted, e)
-                (eight-set (brackets σ i) (bracketOf σ i) (omega (arith, v .counted, room)) ∙ ap eight (sym (brackets-yes σ i y)));
-            counted = ap (λ (k : ℕ). k + 1) (v .counted) ∙ sym (ap length (brackets-yes σ i y) ∙ length-append (brackets σ i) (bracketOf σ i ∷ []));
-            most = omega (arith, room);
-            voided = next-void;
-            none = v .none;
-          }
+          let one : brackets σ i ≡ brackets σ (i - 1) ++ (b ∷ []) = added σ i ∙ rw (← v .here, ← h, o, e) in
+          next (set list count b) (count + 1)
+          (rw (one, v .found, v .counted) (eight-set (brackets σ (i - 1)) b (omega (arith, v .counted, room))))
+          (rw one (ap (λ (k : ℕ). k + 1) (v .counted) ∙ sym (length-append (brackets σ (i - 1)) (b ∷ []))))
+          (omega (arith, room))

@@ -5,14 +5,14 @@ use mathlib.Core.List.{List, [], _∷_, _++_, map}
 use lib.Dec.{ltb}
 use lib.ListN.{length, take, replicate}
 use lib.IntN.{ℤ, pos}
-use Rattle.sweep.specs.declared.bisection.Bracket.{Bracket}
-use Rattle.sweep.specs.declared.side.Side.{Side}
+use Rattle.bisection.specs.declared.Bracket.{Bracket}
+use Rattle.bisection.specs.declared.side.Side.{Side}
 use Rattle.sweep.specs.declared.Crossings.{Crossings}
 use Rattle.sweep.specs.declared.Walk.{Walk}
 use Rattle.sweep.specs.declared.Walk.the-variants.{AllTimed, SomeVoid, NinthFound}
-use Rattle.sweep.specs.Sides.{opposite, isUnknown}
-use Rattle.sweep.specs.Stations.{stationOf}
-use Rattle.sweep.specs.Halving.{bisectOf}
+use Rattle.bisection.specs.Sides.{isUnknown}
+use Rattle.bisection.specs.Stations.{stationOf}
+use Rattle.bisection.specs.Pairs.{crosses, bracketOf}
 
 -- 0, 1, .., n - 1
 unfoldable pub upTo : ℕ → List ℕ
@@ -29,10 +29,6 @@ unfoldable pub some : (ℕ → Bool) → List ℕ → Bool
 some p [] = false
 some p (x ∷ xs) = p x || some p xs
 
--- stations i and i + 1, a neighbouring pair, have times on different sides
-unfoldable pub crosses : (ℤ → Side) → ℕ → Bool
-crosses σ i = opposite (σ (stationOf i)) (σ (stationOf (i + 1)))
-
 -- the crossings up to the station `last`, each by the index of its lower station, in rising order
 unfoldable pub crossings : (ℤ → Side) → ℕ → List ℕ
 crossings σ last = keep (crosses σ) (upTo last)
@@ -40,10 +36,6 @@ crossings σ last = keep (crosses σ) (upTo last)
 -- whether some station is void, the first and the last among them
 unfoldable pub someVoid : (ℤ → Side) → ℕ → Bool
 someVoid σ last = some (λ i. isUnknown (σ (stationOf i))) (upTo (last + 1))
-
--- the bracket of a pair: where its halving stops
-unfoldable pub bracketOf : (ℤ → Side) → ℕ → Bracket
-bracketOf σ i = bisectOf σ 20 0 (stationOf i) (stationOf (i + 1))
 
 unfoldable pub brackets : (ℤ → Side) → ℕ → List Bracket
 brackets σ last = map (bracketOf σ) (crossings σ last)

@@ -2,23 +2,17 @@
 // walked in rising x, and each of the first eight neighbouring pairs on different sides is halved
 // down to a bracket.
 ghost use mathlib.Core.Path.{_≡_};
-ghost use Rattle.sweep.specs.Sides.{sideAt};
-ghost use Rattle.sweep.specs.Stations.{lastOf};
+ghost use Rattle.bisection.specs.Sides.{sideAt};
+ghost use Rattle.bisection.specs.Stations.{lastOf};
 ghost use Rattle.sweep.specs.Crossings.{walkOf, sweepOf};
-
-mod bisection;
-mod side;
-mod stations;
-
 pub use bisection::Bracket;
-use bisection::bisect;
+use bisection::Side;
+use bisection::are_opposite;
+use bisection::bracket_of;
+use bisection::is_unknown;
+use bisection::last_station;
+use bisection::side_of_station;
 use geometry::Triangle;
-pub use side::Side;
-use side::are_opposite;
-use side::is_unknown;
-use side::side_at;
-use stations::last_station;
-use stations::station;
 
 // What is known of the stations. At a ninth crossing the walk is left, and nothing is said of the
 // times at the stations.
@@ -48,29 +42,27 @@ pub fn find_crossings(triangle: Triangle, m: u16, wanted: f64) -> Crossings
     };
     let mut list = [blank; 8];
     let mut count: usize = 0;
-    let mut low = side_at(triangle, m, wanted, station(0));
-    let mut void = is_unknown(low);
-    let mut ninth = false;
-    let mut i: u64 = 0;
-    'stations: while i < last {
-        let upper = station(i + 1);
-        let high = side_at(triangle, m, wanted, upper);
+    let mut void = false;
+    let mut low = Side::Unknown; // There is no station before the first.
+    let mut i: u16 = 0;
+    'stations: while i <= last {
+        let high = side_of_station(triangle, m, wanted, i);
         if are_opposite(low, high) {
             if count == 8 {
-                ninth = true;
                 break 'stations;
             }
-            list[count] = bisect(triangle, m, wanted, low, station(i), upper, 0);
+            list[count] = bracket_of(triangle, m, wanted, i - 1);
             count += 1;
         }
         void = void | is_unknown(high);
         low = high;
         i += 1;
     }
+    // A walk that ends before the last station has found a ninth.
     Crossings {
         list,
         count,
-        walk: walk_of(ninth, void),
+        walk: walk_of(i <= last, void),
     }
 }
 

@@ -13,7 +13,7 @@ use Rattle.records.specs.Records.{headBytes, answerHeadOf, entryBytes, answerBy
 use Rattle.records.specs.declared.Head.{Head}
 use Rattle.records.specs.declared.Entry.{Entry}
 use Rattle.records.proofs.Sizes.{head-length}
-use Rattle.sweep.specs.declared.bisection.Bracket.{Bracket}
+use Rattle.bisection.specs.declared.Bracket.{Bracket}
 use Rattle.entries.specs.Entries.{entryFor}
 use Rattle.entries.proofs.BracketLists.{take-few}
 use Rattle.entries.proofs.Written.{laid-length, not-laid, soFar, starts, size-at, goes-on, ends, answer-size}

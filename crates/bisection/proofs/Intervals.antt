@@ -1,0 +1,110 @@
+-- What `bisect` asks of an interval and finds in it: the machine's numbers for the width and the middle are the definition's, each half is an interval again, and each way of the code is the definition's.
+use mathlib.Core.Path.{_≡_, refl, sym, ap, _∙_, subst}
+use mathlib.Core.Bool.{Bool, true, false, cond}
+use Prim.Native.Nat.{ℕ, zero, suc, _+_, _-_, _^_, _≤_, _<_}
+use native.Mathlib.Omega.{arith}
+use lib.Pow.{pow-pos}
+use lib.IntN.{ℤ, pos, _+ℤ_, _-ℤ_}
+use lib.Signed.{mag, quotZ}
+use mir.Syntax.{w64}
+use mir.Val.{SFits, toZ, ofZ}
+use mir.Facts.{toZ-ofZ}
+use Rattle.bisection.specs.declared.Bracket.{Bracket}
+use Rattle.bisection.specs.declared.side.Side.{Side}
+use Rattle.bisection.specs.Sides.{opposite, isUnknown}
+use Rattle.bisection.specs.Halving.{middleOf, bisectOf}
+use Rattle.bisection.specs.Interval.{Interval}
+use Rattle.bisection.proofs.Places.{mag-add}
+use Rattle.bisection.proofs.Halving.{double, up-less, middle, top, up-twice, sum-is, middle-is, step, mag-twice}
+
+-- an interval by other names of its ends
+pub renamed : {σ : ℤ → Side} {low : Side} {a b x y : ℤ} {h : ℕ} → x ≡ a → y ≡ b → Interval σ low a b h → Interval σ low x y h
+renamed {σ} {low} {b = b} {x = x} {h = h} e f v = subst (λ (z : ℤ). Interval σ low x z h) (sym f) (subst (λ (z : ℤ). Interval σ low z b h) (sym e) v)
+
+-- 2^k is 1 at k = 0 alone
+one-at : (k : ℕ) → 2 ^ k ≡ 1 → k ≡ 0
+one-at zero e = refl
+one-at (suc k) e = omega (arith, double k, pow-pos k)
+
+module _ {σ : ℤ → Side} {low : Side} {a b : ℤ} {h : ℕ} (v : Interval σ low a b h) where
+  -- at width 1 no halving is left
+  pub at-one : 2 ^ (20 - h) ≡ 1 → record { lower = a; upper = b; halvings = h } ≡ bisectOf σ (20 - h) h a b
+  unfolding bisectOf
+  at-one e = let z : 20 - h ≡ 0 = one-at (20 - h) e in rw z
+
+  module _ (fa : SFits w64 a) (fb : SFits w64 b) where
+    width-read : toZ w64 (ofZ w64 b) -ℤ toZ w64 (ofZ w64 a) ≡ pos (2 ^ (20 - h))
+    width-read = rw (toZ-ofZ fa, toZ-ofZ fb) (ap (λ (z : ℤ). z -ℤ a) (v .upperIs) ∙ up-less a (2 ^ (20 - h)))
+
+    pub width-fits : SFits w64 (toZ w64 (ofZ w64 b) -ℤ toZ w64 (ofZ w64 a))
+    width-fits = rw width-read (record { sfits = omega (arith, v .room) })
+
+    pub width-bits : ofZ w64 (toZ w64 (ofZ w64 b) -ℤ toZ w64 (ofZ w64 a)) ≡ 2 ^ (20 - h)
+    width-bits = ap (ofZ w64) width-read
+
+  module _ (more : 2 ^ (20 - h) ≡ 1 → ⊥) where
+    left-by : (k : ℕ) → 20 - h ≡ k → h < 20
+    left-by zero e = absurd (more (ap (λ (j : ℕ). 2 ^ j) e))
+    left-by (suc k) e = omega arith
+
+    pub left : h < 20
+    left = left-by (20 - h) refl
+
+    rest : 20 - h ≡ suc (20 - (h + 1))
+    rest = omega (arith, left)
+
+    -- the middle, half the width above the lower end
+    abbrev pub mid : ℤ
+    mid = middle a (20 - (h + 1))
+
+    upper-is : b ≡ top a (20 - (h + 1))
+    upper-is = v .upperIs ∙ ap (λ (j : ℕ). a +ℤ pos (2 ^ j)) rest
+
+    whole : 2 ^ (20 - h) ≡ 2 ^ (20 - (h + 1)) + 2 ^ (20 - (h + 1))
+    whole = ap (λ (j : ℕ). 2 ^ j) rest ∙ double (20 - (h + 1))
+
+    mid-room : mag mid + 2 ^ (20 - (h + 1)) ≤ 2 ^ 40
+    mid-room = omega (arith, mag-add a (2 ^ (20 - (h + 1))), v .room, whole)
+
+    module _ (fa : SFits w64 a) (fb : SFits w64 b) where
+      sum-read : toZ w64 (ofZ w64 a) +ℤ toZ w64 (ofZ w64 b) ≡ mid +ℤ mid
+      sum-read = rw (toZ-ofZ fa, toZ-ofZ fb) (ap (λ (z : ℤ). a +ℤ z) upper-is ∙ sum-is a (20 - (h + 1)))
+
+      pub sum-fits : SFits w64 (toZ w64 (ofZ w64 a) +ℤ toZ w64 (ofZ w64 b))
+      sum-fits = rw sum-read (record { sfits = omega (arith, mag-twice mid, mid-room) })
+
+      -- the middle as the code works it out
+      abbrev halfway : ℤ
+      halfway = quotZ (toZ w64 (ofZ w64 (toZ w64 (ofZ w64 a) +ℤ toZ w64 (ofZ w64 b)))) (pos 2)
+
+      halfway-is : halfway ≡ mid
+      halfway-is =
+          ap (λ (z : ℤ). quotZ z (pos 2)) (toZ-ofZ sum-fits ∙ sum-read ∙ sym (sum-is a (20 - (h + 1))))
+          ∙ middle-is a (20 - (h + 1))
+
+      pub halfway-fits : SFits w64 halfway
+      halfway-fits = rw halfway-is (record { sfits = omega (arith, mid-room) })
+
+      pub mid-read : toZ w64 (ofZ w64 halfway) ≡ mid
+      mid-read = toZ-ofZ halfway-fits ∙ halfway-is
+
+    pub lower-next : Interval σ low a mid (h + 1)
+    lower-next = record { side = v .side; upperIs = refl; most = omega (arith, left); room = omega (arith, v .room, whole) }
+
+    module _ {s : Side} (here : s ≡ σ mid) where
+      halves : bisectOf σ (20 - h) h a b
+          ≡ cond (isUnknown s) (record { lower = a; upper = b; halvings = h })
+          (cond (opposite low s) (bisectOf σ (20 - (h + 1)) (h + 1) a mid) (bisectOf σ (20 - (h + 1)) (h + 1) mid b))
+      halves = rw (here, v .side, upper-is) (ap (λ (n : ℕ). bisectOf σ n h a (top a (20 - (h + 1)))) rest ∙ step a (20 - (h + 1)) σ h)
+
+      pub at-void : isUnknown s ≡ true → record { lower = a; upper = b; halvings = h } ≡ bisectOf σ (20 - h) h a b
+      at-void e = sym (halves ∙ rw e)
+
+      pub in-lower : isUnknown s ≡ false → opposite low s ≡ true → bisectOf σ (20 - (h + 1)) (h + 1) a mid ≡ bisectOf σ (20 - h) h a b
+      in-lower e o = sym (halves ∙ rw (e, o))
+
+      pub in-upper : isUnknown s ≡ false → opposite low s ≡ false → bisectOf σ (20 - (h + 1)) (h + 1) mid b ≡ bisectOf σ (20 - h) h a b
+      in-upper e o = sym (halves ∙ rw (e, o))
+
+      pub upper-next : Interval σ s mid b (h + 1)
+      upper-next = record { side = here; upperIs = upper-is ∙ sym (up-twice a (20 - (h + 1))); most = omega (arith, left); room = mid-room }

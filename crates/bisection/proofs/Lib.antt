@@ -1,0 +1,4 @@
+pub mod Places
+pub mod Halving
+pub mod Intervals
+pub mod BracketLaws

@@ -1,0 +1,64 @@
+// Sides, stations and the bisection of a pair (01, Stations, sides, crossings): which side of the
+// wanted time a place is on, and where the halving of two neighbouring stations stops.
+ghost use mathlib.Core.Path.{_≡_};
+ghost use Prim.Native.Nat.{_-_};
+ghost use Rattle.bisection.specs.Sides.{sideAt};
+ghost use Rattle.bisection.specs.Halving.{bisectOf};
+ghost use Rattle.bisection.specs.Interval.{Interval};
+ghost use Rattle.bisection.specs.Pairs.{bracketOf};
+
+mod side;
+mod stations;
+
+use flight_time::Place;
+use geometry::Triangle;
+pub use side::Side;
+pub use side::are_opposite;
+pub use side::is_unknown;
+use side::side_at;
+pub use stations::last_station;
+pub use stations::side_of_station;
+pub use stations::station;
+
+// The interval at which the halving of a pair stops, and how often the pair was halved.
+pub struct Bracket {
+    pub lower: i64,
+    pub upper: i64,
+    pub halvings: u32,
+}
+
+// The bracket of the stations i and i + 1: where the halving of this pair stops. It encloses a
+// crossing if the pair crosses.
+pub fn bracket_of(triangle: Triangle, m: u16, wanted: f64, i: u16) -> Bracket
+    ensures { λ r. ⌜ r ≡ bracketOf (sideAt triangle m wanted) i ⌝ }
+{
+    let a = station(i);
+    let low = side_at(triangle, m, wanted, a);
+    bisect(triangle, m, wanted, low, a, a + Place::STATION_SPACING, 0)
+}
+
+// Halves the interval from a to b, whose lower end is on the side `low`, after h halvings. In an
+// interval wider than 1 the middle is neither end.
+fn bisect(triangle: Triangle, m: u16, wanted: f64, low: Side, a: i64, b: i64, h: u32) -> Bracket
+    requires { ⌜ Interval (sideAt triangle m wanted) low a b h ⌝ }
+    ensures { λ r. ⌜ r ≡ bisectOf (sideAt triangle m wanted) (20 - h) h a b ⌝ }
+{
+    let here = Bracket {
+        lower: a,
+        upper: b,
+        halvings: h,
+    };
+    if b - a == 1 {
+        return here;
+    }
+    let middle = (a + b) / 2;
+    let side = side_at(triangle, m, wanted, middle);
+    if is_unknown(side) {
+        return here; // A void middle isn't counted.
+    }
+    if are_opposite(low, side) {
+        bisect(triangle, m, wanted, low, a, middle, h + 1)
+    } else {
+        bisect(triangle, m, wanted, side, middle, b, h + 1)
+    }
+}
