@@ -3,3 +3,4 @@ pub mod Table
 pub mod Internals
 pub mod Solve
 pub mod Demand
+pub mod Curve

@@ -3,6 +3,7 @@
 ghost use mathlib.Core.Path.{_≡_};
 ghost use Rattle.solver.specs.Solve.{settledOf, solveOf};
 
+mod curve;
 mod host;
 mod numbers;
 mod responses;
