@@ -9,7 +9,7 @@ use borrow.Author.Tests.{le-leb, lt-leb}
 use borrow.Rule.Slice.PartMut.{midOf, postOf, putMid}
 use lib.ListN.{length, take, drop, getD, length-append, length-drop, length-map, drop-of-length-le, take-append-drop}
 use lib.Seq.{take-at, drop-at, take-all, take-suc, drop-drop, length-take-le}
-use Rattle.records.specs.Bytes.{hasRoom, written}
+use Rattle.little_endian.specs.Bytes.{hasRoom, written}
 use Rattle.records.specs.Records.{headBytes, answerHeadOf, entryBytes, entriesBytes, answerBytes}
 use Rattle.records.specs.declared.Entry.{Entry}
 use Rattle.records.proofs.Sizes.{head-length, entry-length}

@@ -2,7 +2,7 @@
 ghost use mathlib.Core.Path.{_≡_};
 ghost use mathlib.Core.List.{map};
 ghost use lib.ListN.{take};
-ghost use Rattle.records.specs.Bytes.{written};
+ghost use Rattle.little_endian.specs.Bytes.{written};
 ghost use Rattle.records.specs.Records.{answerBytes};
 ghost use Rattle.entries.specs.Entries.{entryFor};
 use crate::at_most_eight;

@@ -1,7 +1,3 @@
-mod Numbers
-mod Tabled
-mod Twos
-mod Writing
 pub mod Sizes
 pub mod Tables
 pub mod RoundTrip

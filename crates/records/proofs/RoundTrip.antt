@@ -1,81 +1,24 @@
--- What is written is read back, whatever follows it: of a number (`number-back`), of a whole table (`table-back`), and so of each record (`question-back`, `head-back`, `entry-back`).
-use mathlib.Core.Path.{_≡_, refl, sym, ap, _∙_, subst}
-use mathlib.Core.List.{List, [], _∷_, _++_, append-assoc}
-use Prim.Native.Nat.{ℕ, zero, suc, _+_, _*_, _/_, _%_, _^_, _<_}
-use native.Mathlib.Nat.{add-zero}
-use native.Mathlib.Numerals.{add-one}
-use native.Mathlib.Omega.{arith}
+-- What is written of a record is read back, whatever follows it (`question-back`, `head-back`, `entry-back`): each is the law over its table, `table-back`.
+use mathlib.Core.Path.{_≡_, ap, _∙_}
+use mathlib.Core.List.{List, [], _∷_, _++_}
+use Prim.Native.Nat.{ℕ, _^_, _<_}
 use lib.Dec.{T}
 use lib.Ieee.{Float, binary64, fits}
 use lib.Ieee.Bits.{toBits-lt}
-use lib.IntN.{ℤ, pos, negsuc}
-use lib.ListN.{length, getD, length-append}
-use lib.Pow.{pow-add}
-use lib.Seq.{getD-append-seam}
-use mir.Syntax.{w64}
-use mir.Val.{SFits}
+use lib.ListN.{getD}
 use Rattle.float64.specs.Notation.{bits, bitsOf}
 use Rattle.float64.specs.declared.Vector.{Vector}
 use Rattle.float64.proofs.Bits.{read-back}
-use Rattle.records.specs.Bytes.{bytesOf, numberAt, signedBits, signedOf}
+use Rattle.little_endian.specs.Bytes.{signedOf}
+use Rattle.little_endian.specs.Tables.{decode, packed}
+use Rattle.little_endian.proofs.RoundTrip.{InRange, done, _⟫_, table-back}
+use Rattle.little_endian.proofs.Twos.{signed-lt, signed-back}
 use Rattle.records.specs.Layout.{encode, questionFields, headFields, entryFields}
 use Rattle.records.specs.Records.{questionOf, questionBytes, headOf, headBytes, entryOf, entryBytes}
-use Rattle.records.specs.Tables.{decode, packed}
 use Rattle.records.specs.Ranges.{VectorHeld, QuestionHeld, HeadHeld, EntryHeld}
 use Rattle.records.specs.declared.Question.{Question}
 use Rattle.records.specs.declared.Head.{Head}
 use Rattle.records.specs.declared.Entry.{Entry}
-use Rattle.records.proofs.Tabled.{bytes-length}
-use Rattle.records.proofs.Twos.{signed-back}
-
--- ---- a number
-pub number-back : (w x : ℕ) (before after : List ℕ) → x < 2 ^ (8 * w) → numberAt w (before ++ (bytesOf w x ++ after)) (length before) ≡ x
-unfolding numberAt bytesOf
-number-back zero x before after h = omega arith
-number-back (suc w) x before after h =
-    let y = x % 256 in
-    let rest = bytesOf w (x / 256) ++ after in
-    ap (λ (z : ℕ). z + 256 * numberAt w (before ++ (y ∷ rest)) (length before + 1)) (getD-append-seam before y rest 0)
-    ∙ ap (λ (z : ℕ). y + 256 * z) (moved y rest ∙ number-back w (x / 256) (before ++ (y ∷ [])) after (smaller (sym (ap (λ (n : ℕ). 2 ^ n) (eight w) ∙ pow-add 2 (8 * w) 8))))
-    ∙ parts x
-  where
-    moved : (y : ℕ) (rest : List ℕ) → numberAt w (before ++ (y ∷ rest)) (length before + 1) ≡ numberAt w ((before ++ (y ∷ [])) ++ rest) (length (before ++ (y ∷ [])))
-    moved y rest =
-        ap (λ (l : List ℕ). numberAt w l (length before + 1)) (sym (append-assoc before (y ∷ []) rest))
-        ∙ ap (λ (n : ℕ). numberAt w ((before ++ (y ∷ [])) ++ rest) n) (sym (length-append before (y ∷ [])))
-
-    eight : (n : ℕ) → 8 * suc n ≡ 8 * n + 8
-    eight n = omega arith
-
-    smaller : 2 ^ (8 * w) * 2 ^ 8 ≡ 2 ^ (8 * suc w) → x / 256 < 2 ^ (8 * w)
-    smaller e = fit (2 ^ (8 * w)) (2 ^ (8 * suc w)) e h
-      where
-        fit : (p q : ℕ) → p * 2 ^ 8 ≡ q → x < q → x / 256 < p
-        fit p q f g = omega arith
-
-    parts : (z : ℕ) → z % 256 + 256 * (z / 256) ≡ z
-    parts z = omega arith
-
--- ---- a table
-infixr 5 _⟫_
-pub data InRange : List ℕ → List ℕ → Type 0 where
-  done : InRange [] []
-  _⟫_ : {w v : ℕ} {ws vs : List ℕ} → v < 2 ^ (8 * w) → InRange ws vs → InRange (w ∷ ws) (v ∷ vs)
-
-pub table-back : (ws vs before after : List ℕ) → InRange ws vs → decode ws (before ++ (packed ws vs ++ after)) (length before) ≡ vs
-unfolding decode packed
-table-back [] [] before after done = refl
-table-back (w ∷ ws) (v ∷ vs) before after (l ⟫ h) =
-    let b = bytesOf w v in
-    let rest = packed ws vs ++ after in
-    let flat : before ++ ((b ++ packed ws vs) ++ after) ≡ before ++ (b ++ rest) = ap (λ (l : List ℕ). before ++ l) (append-assoc b (packed ws vs) after) in
-    let next : length before + w ≡ length (before ++ b) = sym (length-append before b ∙ ap (λ (n : ℕ). length before + n) (bytes-length w v)) in
-    ap (λ (l : List ℕ). numberAt w l (length before) ∷ decode ws l (length before + w)) flat
-    ∙ ap (λ (n : ℕ). n ∷ decode ws (before ++ (b ++ rest)) (length before + w)) (number-back w v before rest l)
-    ∙ ap (λ (l : List ℕ). v ∷ l)
-    (ap (λ (l : List ℕ). decode ws l (length before + w)) (sym (append-assoc before b rest))
-    ∙ ap (λ (n : ℕ). decode ws ((before ++ b) ++ rest) n) next
-    ∙ table-back ws vs (before ++ b) after h)
 
 -- ---- floats
 float-lt : (x : Float) → T (fits binary64 x) → bitsOf x < 2 ^ 64
@@ -87,11 +30,6 @@ vector-lt v h r = float-lt (v .x) (h .x) ⟫ float-lt (v .y) (h .y) ⟫ float-lt
 
 vector-back : (v : Vector) → VectorHeld v → record { x = bits (bitsOf (v .x)); y = bits (bitsOf (v .y)); z = bits (bitsOf (v .z)) } ≡ v
 vector-back v h = simp (read-back (v .x) (h .x), read-back (v .y) (h .y), read-back (v .z) (h .z))
-
-signed-lt : (k : ℤ) → SFits w64 k → signedBits k < 2 ^ 64
-unfolding signedBits
-signed-lt (pos n) f = omega (arith, f .sfits)
-signed-lt (negsuc n) f = omega arith
 
 -- ---- the records, each made of its fields' values
 questionFrom : List ℕ → Question

@@ -7,7 +7,7 @@ use Rattle.records.specs.Records.{questionBytes, headBytes, entryBytes}
 use Rattle.records.specs.declared.Question.{Question}
 use Rattle.records.specs.declared.Head.{Head}
 use Rattle.records.specs.declared.Entry.{Entry}
-use Rattle.records.proofs.Tabled.{bytes-length}
+use Rattle.little_endian.proofs.Tabled.{bytes-length}
 
 pub question-length : (q : Question) → length (questionBytes q) ≡ 82
 unfolding questionBytes encode questionFields

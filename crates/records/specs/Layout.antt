@@ -4,7 +4,7 @@ use Prim.Native.Nat.{ℕ, _+_}
 use mathlib.Core.Bool.{Bool, _&&_}
 use mathlib.Core.List.{List, [], _∷_, _++_}
 use lib.Dec.{eqb}
-use Rattle.records.specs.Bytes.{bytesOf, numberAt}
+use Rattle.little_endian.specs.Bytes.{bytesOf, numberAt}
 
 pub record Field : Type 0 where
   pub offset : ℕ

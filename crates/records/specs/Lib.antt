@@ -1,5 +1,3 @@
-pub mod Bytes
 pub mod Layout
 pub mod Records
-pub mod Tables
 pub mod Ranges

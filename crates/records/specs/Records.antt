@@ -5,7 +5,7 @@ use lib.Ieee.{Float}
 use lib.ListN.{length}
 use Rattle.float64.specs.Notation.{bits, bitsOf}
 use Rattle.float64.specs.declared.Vector.{Vector}
-use Rattle.records.specs.Bytes.{signedBits, signedOf}
+use Rattle.little_endian.specs.Bytes.{signedBits, signedOf}
 use Rattle.records.specs.Layout.{Field, LENGTH, KIND, JOB, REVISION, REVOLUTIONS, WAY, SPARE, R1X, R1Y, R1Z, R2X, R2Y, R2Z, MU, TIME, LAST, LOWER, HALVINGS, CHOSEN, V1X, V1Y, V1Z, V2X, V2Y, V2Z, questionFields, headFields, entryFields, valueOf, encode}
 use Rattle.records.specs.declared.Question.{Question}
 use Rattle.records.specs.declared.Head.{Head}
@@ -31,10 +31,10 @@ questionOf s = record {
   time = bits (valueOf TIME s);
 }
 
-unfoldable pub questionBytes : Question → List ℕ
-questionBytes q =
-    encode questionFields
-    (q .length
+-- the numbers that a question's fields hold
+abbrev pub questionNumbers : Question → List ℕ
+questionNumbers q =
+    q .length
     ∷ q .kind
     ∷ q .job
     ∷ q .revision
@@ -49,14 +49,20 @@ questionBytes q =
     ∷ bitsOf (q .r2 .z)
     ∷ bitsOf (q .mu)
     ∷ bitsOf (q .time)
-    ∷ [])
+    ∷ []
+
+unfoldable pub questionBytes : Question → List ℕ
+questionBytes q = encode questionFields (questionNumbers q)
 
 -- the 16 bytes of a refusal, and those that an answer begins with
 unfoldable pub headOf : List ℕ → Head
 headOf s = record { length = valueOf LENGTH s; kind = valueOf KIND s; job = valueOf JOB s; revision = valueOf REVISION s; last = valueOf LAST s }
 
+abbrev pub headNumbers : Head → List ℕ
+headNumbers h = h .length ∷ h .kind ∷ h .job ∷ h .revision ∷ h .last ∷ []
+
 unfoldable pub headBytes : Head → List ℕ
-headBytes h = encode headFields (h .length ∷ h .kind ∷ h .job ∷ h .revision ∷ h .last ∷ [])
+headBytes h = encode headFields (headNumbers h)
 
 -- a refusal of kind 3 with its number, and the head of an answer of kind 2 with n entries
 unfoldable pub refusalOf : ℕ → ℕ → ℕ → Head
@@ -75,10 +81,9 @@ entryOf s = record {
   v2 = vectorOf V2X V2Y V2Z s;
 }
 
-unfoldable pub entryBytes : Entry → List ℕ
-entryBytes e =
-    encode entryFields
-    (signedBits (e .lower)
+abbrev pub entryNumbers : Entry → List ℕ
+entryNumbers e =
+    signedBits (e .lower)
     ∷ e .halvings
     ∷ e .chosen
     ∷ bitsOf (e .v1 .x)
@@ -87,7 +92,10 @@ entryBytes e =
     ∷ bitsOf (e .v2 .x)
     ∷ bitsOf (e .v2 .y)
     ∷ bitsOf (e .v2 .z)
-    ∷ [])
+    ∷ []
+
+unfoldable pub entryBytes : Entry → List ℕ
+entryBytes e = encode entryFields (entryNumbers e)
 
 -- an answer as a whole: the head with the number of entries, and the entries one after another
 unfoldable pub entriesBytes : List Entry → List ℕ

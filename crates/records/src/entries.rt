@@ -1,54 +1,52 @@
 // An entry of an answer: 64 bytes.
 ghost use mathlib.Core.Path.{_≡_};
-ghost use Rattle.records.specs.Bytes.{hasRoom, written};
-ghost use Rattle.records.specs.Records.{entryOf, entryBytes};
+ghost use mathlib.Core.List.{_++_};
+ghost use lib.ListN.{replicate};
+ghost use Rattle.little_endian.specs.Bytes.{hasRoom, written};
+ghost use Rattle.records.specs.Records.{entryOf, entryNumbers, entryBytes};
 use crate::Entry;
-use crate::fields::numbers;
-use crate::fields::put_numbers;
-use crate::words::signed_bits;
-use crate::words::signed_of;
-use crate::words::vector_of;
-use crate::words::words_of;
+use crate::floats::vector_at;
+use float64::to_bits;
+use little_endian::put_numbers;
+use little_endian::signed_bits;
+use little_endian::signed_of;
+use little_endian::u32_at;
+use little_endian::word_at;
 
 const WIDTHS: [usize; 18] = [8, 4, 4, 8, 8, 8, 8, 8, 8, 0, 0, 0, 0, 0, 0, 0, 0, 0];
 
 pub fn read_entry(s: &[u8]) -> Entry
     ensures { λ r. ⌜ r ≡ entryOf (now (s .entry)) ⌝ }
 {
-    let v = numbers(s, WIDTHS);
-    let lower = signed_of(v[0]);
-    let v1 = vector_of(v[3], v[4], v[5]);
-    let v2 = vector_of(v[6], v[7], v[8]);
     Entry {
-        lower,
-        halvings: v[1] as u32,
-        chosen: v[2] as u32,
-        v1,
-        v2,
+        lower: signed_of(word_at(s, 0)),
+        halvings: u32_at(s, 8),
+        chosen: u32_at(s, 12),
+        v1: vector_at(s, 16),
+        v2: vector_at(s, 40),
     }
 }
 
 pub fn write_entry(out: &mut [u8], e: Entry) -> bool
     ensures { λ r. ⌜ (r ≡ hasRoom (now (out .entry)) (entryBytes e)) × (now (out .exit) ≡ written (now (out .entry)) (entryBytes e)) ⌝ }
 {
-    if out.len() < 64 {
-        return false;
-    }
-    let lower = signed_bits(e.lower);
-    let v1 = e.v1;
-    let v2 = e.v2;
-    let a = words_of(v1);
-    let b = words_of(v2);
-    let values = [
-        lower,
+    put_numbers(out, WIDTHS, numbers_of(e))
+}
+
+// What the fields hold, in the table's order.
+fn numbers_of(e: Entry) -> [u64; 18]
+    ensures { λ r. ⌜ r ≡ entryNumbers e ++ replicate 9 0 ⌝ }
+{
+    [
+        signed_bits(e.lower),
         e.halvings as u64,
         e.chosen as u64,
-        a.x,
-        a.y,
-        a.z,
-        b.x,
-        b.y,
-        b.z,
+        to_bits(e.v1.x),
+        to_bits(e.v1.y),
+        to_bits(e.v1.z),
+        to_bits(e.v2.x),
+        to_bits(e.v2.y),
+        to_bits(e.v2.z),
         0,
         0,
         0,
@@ -58,7 +56,5 @@ pub fn write_entry(out: &mut [u8], e: Entry) -> bool
         0,
         0,
         0,
-    ];
-    put_numbers(out, WIDTHS, values);
-    true
+    ]
 }

@@ -1,33 +1,39 @@
 // A refusal, kind 3, and the head of an answer, kind 2: 16 bytes.
 ghost use mathlib.Core.Path.{_≡_};
-ghost use Rattle.records.specs.Bytes.{hasRoom, written};
-ghost use Rattle.records.specs.Records.{headOf, headBytes, refusalOf, answerHeadOf};
+ghost use mathlib.Core.List.{_++_};
+ghost use lib.ListN.{replicate};
+ghost use Rattle.little_endian.specs.Bytes.{hasRoom, written};
+ghost use Rattle.records.specs.Records.{headOf, headNumbers, headBytes, refusalOf, answerHeadOf};
 use crate::Head;
-use crate::fields::numbers;
-use crate::fields::put_numbers;
+use little_endian::put_numbers;
+use little_endian::u16_at;
+use little_endian::u32_at;
 
 const WIDTHS: [usize; 18] = [4, 2, 4, 4, 2, 0, 0, 0, 0, 0, 0, 0, 0, 0, 0, 0, 0, 0];
 
 pub fn read_head(s: &[u8]) -> Head
     ensures { λ r. ⌜ r ≡ headOf (now (s .entry)) ⌝ }
 {
-    let v = numbers(s, WIDTHS);
     Head {
-        length: v[0] as u32,
-        kind: v[1] as u16,
-        job: v[2] as u32,
-        revision: v[3] as u32,
-        last: v[4] as u16,
+        length: u32_at(s, 0),
+        kind: u16_at(s, 4),
+        job: u32_at(s, 6),
+        revision: u32_at(s, 10),
+        last: u16_at(s, 14),
     }
 }
 
 pub fn write_head(out: &mut [u8], h: Head) -> bool
     ensures { λ r. ⌜ (r ≡ hasRoom (now (out .entry)) (headBytes h)) × (now (out .exit) ≡ written (now (out .entry)) (headBytes h)) ⌝ }
 {
-    if out.len() < 16 {
-        return false;
-    }
-    let values = [
+    put_numbers(out, WIDTHS, numbers_of(h))
+}
+
+// What the fields hold, in the table's order.
+fn numbers_of(h: Head) -> [u64; 18]
+    ensures { λ r. ⌜ r ≡ headNumbers h ++ replicate 13 0 ⌝ }
+{
+    [
         h.length as u64,
         h.kind as u64,
         h.job as u64,
@@ -46,9 +52,7 @@ pub fn write_head(out: &mut [u8], h: Head) -> bool
         0,
         0,
         0,
-    ];
-    put_numbers(out, WIDTHS, values);
-    true
+    ]
 }
 
 // A refusal with its number.

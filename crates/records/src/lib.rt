@@ -1,14 +1,10 @@
 // The records of 01, read from bytes and written to them. Reading takes any bytes, one past the end counting as 0; writing
-// starts at the buffer's first byte, and where there is no room it changes nothing and says so. Their words of 64 bits can be
-// read singly too.
-mod bytes;
+// starts at the buffer's first byte, and where there is no room it changes nothing and says so.
 mod entries;
-mod fields;
+mod floats;
 mod heads;
 mod questions;
-mod words;
 
-pub use bytes::word_at;
 pub use entries::read_entry;
 pub use entries::write_entry;
 use float64::Vector;
@@ -18,8 +14,6 @@ pub use heads::refusal;
 pub use heads::write_head;
 pub use questions::read_question;
 pub use questions::write_question;
-pub use words::signed_bits;
-pub use words::signed_of;
 
 // A question (kind 1).
 pub struct Question {

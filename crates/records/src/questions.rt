@@ -1,49 +1,49 @@
 // The question, kind 1: 82 bytes.
 ghost use mathlib.Core.Path.{_≡_};
-ghost use Rattle.records.specs.Bytes.{hasRoom, written};
-ghost use Rattle.records.specs.Records.{questionOf, questionBytes};
+ghost use mathlib.Core.List.{_++_};
+ghost use lib.ListN.{replicate};
+ghost use Rattle.little_endian.specs.Bytes.{hasRoom, written};
+ghost use Rattle.records.specs.Records.{questionOf, questionNumbers, questionBytes};
 use crate::Question;
-use crate::fields::numbers;
-use crate::fields::put_numbers;
-use crate::words::vector_of;
-use crate::words::words_of;
+use crate::floats::float_at;
+use crate::floats::vector_at;
+use float64::to_bits;
+use little_endian::put_numbers;
+use little_endian::u8_at;
+use little_endian::u16_at;
+use little_endian::u32_at;
 
 const WIDTHS: [usize; 18] = [4, 2, 4, 4, 2, 1, 1, 8, 8, 8, 8, 8, 8, 8, 8, 0, 0, 0];
 
 pub fn read_question(s: &[u8]) -> Question
     ensures { λ r. ⌜ r ≡ questionOf (now (s .entry)) ⌝ }
 {
-    let v = numbers(s, WIDTHS);
-    let r1 = vector_of(v[7], v[8], v[9]);
-    let r2 = vector_of(v[10], v[11], v[12]);
     Question {
-        length: v[0] as u32,
-        kind: v[1] as u16,
-        job: v[2] as u32,
-        revision: v[3] as u32,
-        revolutions: v[4] as u16,
-        way: v[5] as u8,
-        spare: v[6] as u8,
-        r1,
-        r2,
-        mu: float64::from_bits(v[13]),
-        time: float64::from_bits(v[14]),
+        length: u32_at(s, 0),
+        kind: u16_at(s, 4),
+        job: u32_at(s, 6),
+        revision: u32_at(s, 10),
+        revolutions: u16_at(s, 14),
+        way: u8_at(s, 16),
+        spare: u8_at(s, 17),
+        r1: vector_at(s, 18),
+        r2: vector_at(s, 42),
+        mu: float_at(s, 66),
+        time: float_at(s, 74),
     }
 }
 
 pub fn write_question(out: &mut [u8], q: Question) -> bool
     ensures { λ r. ⌜ (r ≡ hasRoom (now (out .entry)) (questionBytes q)) × (now (out .exit) ≡ written (now (out .entry)) (questionBytes q)) ⌝ }
 {
-    if out.len() < 82 {
-        return false;
-    }
-    let r1 = q.r1;
-    let r2 = q.r2;
-    let a = words_of(r1);
-    let b = words_of(r2);
-    let mu = float64::to_bits(q.mu);
-    let time = float64::to_bits(q.time);
-    let values = [
+    put_numbers(out, WIDTHS, numbers_of(q))
+}
+
+// What the fields hold, in the table's order.
+fn numbers_of(q: Question) -> [u64; 18]
+    ensures { λ r. ⌜ r ≡ questionNumbers q ++ replicate 3 0 ⌝ }
+{
+    [
         q.length as u64,
         q.kind as u64,
         q.job as u64,
@@ -51,18 +51,16 @@ pub fn write_question(out: &mut [u8], q: Question) -> bool
         q.revolutions as u64,
         q.way as u64,
         q.spare as u64,
-        a.x,
-        a.y,
-        a.z,
-        b.x,
-        b.y,
-        b.z,
-        mu,
-        time,
+        to_bits(q.r1.x),
+        to_bits(q.r1.y),
+        to_bits(q.r1.z),
+        to_bits(q.r2.x),
+        to_bits(q.r2.y),
+        to_bits(q.r2.z),
+        to_bits(q.mu),
+        to_bits(q.time),
         0,
         0,
         0,
-    ];
-    put_numbers(out, WIDTHS, values);
-    true
+    ]
 }

@@ -11,7 +11,7 @@ use lib.Dec.{eqb, ltb, lit<, lit≤}
 use lib.ListN.{length, getD, take, drop, List·getD-map, length-map}
 use Rattle.geometry.specs.Triangles.{shapeOf}
 use Rattle.geometry.specs.declared.Shape.{Shape}
-use Rattle.records.specs.Bytes.{written}
+use Rattle.little_endian.specs.Bytes.{written}
 use Rattle.records.specs.Records.{questionOf, entryBytes, answerBytes}
 use Rattle.records.specs.declared.Question.{Question}
 use Rattle.records.specs.declared.Entry.{Entry}

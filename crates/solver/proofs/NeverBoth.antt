@@ -7,7 +7,7 @@ use native.Mathlib.Omega.{arith}
 use lib.Dec.{eqb}
 use lib.ListN.{length, take, drop, length-take}
 use lib.Seq.{take-append-seam, drop-append-seam}
-use Rattle.records.specs.Bytes.{written}
+use Rattle.little_endian.specs.Bytes.{written}
 use Rattle.records.specs.Records.{headBytes, answerBytes}
 use Rattle.records.proofs.Sizes.{head-length}
 use Rattle.entrance.specs.Judge.{firstOf, judgeOf}

@@ -7,7 +7,7 @@ use native.Mathlib.Omega.{arith}
 use borrow.Author.Tests.{le-ltb, lt-ltb, eqb-true}
 use lib.Dec.{eqb, ltb}
 use lib.ListN.{length}
-use Rattle.records.specs.Bytes.{written}
+use Rattle.little_endian.specs.Bytes.{written}
 use Rattle.records.specs.Records.{headBytes, answerBytes}
 use Rattle.records.proofs.Sizes.{head-length}
 use Rattle.records.proofs.Answers.{answer-length}

@@ -2,7 +2,7 @@
 // revolutions. Writes a line for each: the count of the crossings, how the walk ended, and the ends and
 // halvings of each bracket. What the independent program makes of the same frames is the expected output.
 ghost use mathlib.Core.Path.{_≡_};
-ghost use Rattle.records.specs.Bytes.{numberAt};
+ghost use Rattle.little_endian.specs.Bytes.{numberAt};
 use libc::STDIN_FILENO;
 use libc::STDOUT_FILENO;
 use sweep::Bracket;
@@ -12,12 +12,12 @@ use sweep::Walk;
 fn wanted_bits(frame: &[u8]) -> u64
     ensures { λ r. ⌜ r ≡ numberAt 8 (now (frame .entry)) 8 ⌝ }
 {
-    records::word_at(frame, 8)
+    little_endian::word_at(frame, 8)
 }
 
 fn crossings_of(frame: &[u8]) -> Crossings {
-    let triangle = time_bits::with_lambda(records::word_at(frame, 0));
-    let m = (records::word_at(frame, 16) % 65536) as u16;
+    let triangle = time_bits::with_lambda(little_endian::word_at(frame, 0));
+    let m = (little_endian::word_at(frame, 16) % 65536) as u16;
     sweep::find_crossings(triangle, m, float64::from_bits(wanted_bits(frame)))
 }
 
@@ -37,9 +37,9 @@ fn print_walk(walk: Walk) {
 
 fn print_bracket(bracket: Bracket) {
     io::write_all(STDOUT_FILENO, b" ");
-    io::print_hex(STDOUT_FILENO, records::signed_bits(bracket.lower), 16);
+    io::print_hex(STDOUT_FILENO, little_endian::signed_bits(bracket.lower), 16);
     io::write_all(STDOUT_FILENO, b" ");
-    io::print_hex(STDOUT_FILENO, records::signed_bits(bracket.upper), 16);
+    io::print_hex(STDOUT_FILENO, little_endian::signed_bits(bracket.upper), 16);
     io::write_all(STDOUT_FILENO, b" ");
     io::print_decimal(STDOUT_FILENO, bracket.halvings as u64);
 }

@@ -2,7 +2,7 @@
 // line for each, the bits of its time or `void`. What the independent program makes of the same
 // frames is the expected output.
 ghost use mathlib.Core.Path.{_≡_};
-ghost use Rattle.records.specs.Bytes.{numberAt};
+ghost use Rattle.little_endian.specs.Bytes.{numberAt};
 use flight_time::Place;
 use libc::STDIN_FILENO;
 use libc::STDOUT_FILENO;
@@ -10,17 +10,17 @@ use libc::STDOUT_FILENO;
 fn k_bits(frame: &[u8]) -> u64
     ensures { λ r. ⌜ r ≡ numberAt 8 (now (frame .entry)) 8 ⌝ }
 {
-    records::word_at(frame, 8)
+    little_endian::word_at(frame, 8)
 }
 
 // The last two bytes: those past the frame's end count as 0.
 fn turns_of(frame: &[u8]) -> u16 {
-    (records::word_at(frame, 16) % 65536) as u16
+    (little_endian::word_at(frame, 16) % 65536) as u16
 }
 
 fn place_of(frame: &[u8]) -> Place {
-    let triangle = time_bits::with_lambda(records::word_at(frame, 0));
-    let k = records::signed_of(k_bits(frame));
+    let triangle = time_bits::with_lambda(little_endian::word_at(frame, 0));
+    let k = little_endian::signed_of(k_bits(frame));
     flight_time::time_at(triangle, k, turns_of(frame))
 }
 

@@ -9,7 +9,7 @@ use libc::STDOUT_FILENO;
 use velocity::Velocities;
 
 fn number(frame: &[u8], at: usize) -> f64 {
-    float64::from_bits(records::word_at(frame, at))
+    float64::from_bits(little_endian::word_at(frame, at))
 }
 
 fn vector(frame: &[u8], at: usize) -> Vector
@@ -49,7 +49,7 @@ fn flown(frame: &[u8]) -> Velocities {
     let mu = number(frame, 0);
     let radius1 = number(frame, 48);
     let radius2 = number(frame, 56);
-    let k = records::signed_of(records::word_at(frame, 136));
+    let k = little_endian::signed_of(little_endian::word_at(frame, 136));
     velocity::velocities_at(mu, triangle, radius1, radius2, directions, k)
 }
 

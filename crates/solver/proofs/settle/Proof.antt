@@ -5,7 +5,7 @@ use mathlib.Core.List.{List, map}
 use Prim.Native.Nat.{ℕ, _+_, _≤_, _<_}
 use native.Mathlib.Omega.{arith}
 use lib.ListN.{length, take}
-use Rattle.records.specs.Bytes.{written}
+use Rattle.little_endian.specs.Bytes.{written}
 use Rattle.records.specs.Records.{answerBytes}
 use Rattle.records.specs.declared.Entry.{Entry}
 use Rattle.entrance.specs.Judge.{firstOf}

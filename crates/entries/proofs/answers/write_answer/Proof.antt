@@ -8,7 +8,7 @@ use mathlib.Core.List.{List, map}
 use borrow.Rule.Slice.PartMut.{midOf, putMid}
 use lib.IntN.{pos}
 use lib.ListN.{length, take, drop}
-use Rattle.records.specs.Bytes.{written}
+use Rattle.little_endian.specs.Bytes.{written}
 use Rattle.records.specs.Records.{headBytes, answerHeadOf, entryBytes, answerBytes}
 use Rattle.records.specs.declared.Head.{Head}
 use Rattle.records.specs.declared.Entry.{Entry}

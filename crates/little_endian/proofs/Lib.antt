@@ -1,0 +1,5 @@
+mod Numbers
+pub mod Twos
+mod Writing
+pub mod Tabled
+pub mod RoundTrip

@@ -1,0 +1,23 @@
+-- `words::signed_of` meets its contract: a word below 2 ^ 63 is its own number, any other is inverted twice.
+use borrow.Author.Needs.{needs}
+use mathlib.Core.Path.{ap, _∙_}
+use mir.Syntax.{w64}
+use mir.Val.{toZ}
+use Rattle.little_endian.proofs.Twos.{signed-is, inverted-twice}
+use Rattle.little_endian.proofs.words.signed_of.Statement.{statement}
+use Rattle.little_endian.proofs.words.signed_of.Tie as tie
+
+cast-result : tie.Need-cast-result
+cast-result c = search needs
+
+cast-result-2 : tie.Need-cast-result-2
+cast-result-2 c = search needs
+
+returns : tie.Need-returns
+returns c = signed-is (c .before .args .b)
+
+returns-2 : tie.Need-returns-2
+returns-2 c = ap (toZ w64) (inverted-twice (c .before .args .b) (search needs)) ∙ signed-is (c .before .args .b)
+
+pub signed-of-spec : {M : Type 1} → statement M
+signed-of-spec = tie.close (tie.spec cast-result cast-result-2 returns returns-2)

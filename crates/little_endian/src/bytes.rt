@@ -1,0 +1,52 @@
+// One number in a slice of bytes, little-endian.
+ghost use mathlib.Core.Path.{_≡_};
+ghost use Prim.Native.Nat.{_+_, _*_, _^_, _≤_, _<_};
+ghost use lib.ListN.{length, getD};
+ghost use lib.Seq.{sets};
+ghost use Rattle.little_endian.specs.Bytes.{bytesOf, numberAt};
+
+// The byte `i` past `at`. One past the end counts as 0.
+fn byte_at(s: &[u8], at: usize, i: usize) -> u64
+    ensures { λ r. ⌜ (r ≡ getD (now (s .entry)) (at + i) 0) × (r < 256) ⌝ }
+{
+    if at < s.len() && i < s.len() - at {
+        s[at + i] as u64
+    } else {
+        0
+    }
+}
+
+// The number whose bytes, at most eight, stand from `at` on.
+pub(crate) fn number_at(s: &[u8], at: usize, width: usize) -> u64
+    requires { ⌜ width ≤ 8 ⌝ }
+    ensures { λ r. ⌜ (r ≡ numberAt width (now (s .entry)) at) × (r < 2 ^ (8 * width)) ⌝ }
+{
+    let mut value = 0u64;
+    let mut left = width;
+    while 0 < left {
+        left -= 1;
+        value = value * 256 + byte_at(s, at, left);
+    }
+    value
+}
+
+// The number of the eight bytes from `at` on.
+pub fn word_at(s: &[u8], at: usize) -> u64
+    ensures { λ r. ⌜ r ≡ numberAt 8 (now (s .entry)) at ⌝ }
+{
+    number_at(s, at, 8)
+}
+
+// Stores the lowest `width` bytes of a number from `at` on.
+pub(crate) fn put_number(out: &mut [u8], at: usize, width: usize, value: u64)
+    requires { ⌜ at + width ≤ length (now out) ⌝ }
+    ensures { λ _. ⌜ now (out .exit) ≡ sets (now (out .entry)) at (bytesOf width value) ⌝ }
+{
+    let mut i = 0;
+    let mut rest = value;
+    while i < width {
+        out[at + i] = (rest % 256) as u8;
+        rest = rest / 256;
+        i += 1;
+    }
+}

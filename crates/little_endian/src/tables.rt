@@ -1,0 +1,51 @@
+// Numbers one after another from the start of a buffer, by a table of their widths in bytes that ends with zeros.
+ghost use mathlib.Core.Path.{_≡_};
+ghost use Prim.Native.Nat.{_≤_};
+ghost use lib.Dec.{leb};
+ghost use lib.ListN.{length};
+ghost use lib.Seq.{sets};
+ghost use Rattle.little_endian.specs.Bytes.{hasRoom, written};
+ghost use Rattle.little_endian.specs.Tables.{total, packed};
+use crate::bytes::put_number;
+
+// Stores the lowest bytes of each number, as many as its width, or says that the buffer is too short for them.
+pub fn put_numbers(out: &mut [u8], widths: [usize; 18], values: [u64; 18]) -> bool
+    ensures { λ r. ⌜ (r ≡ hasRoom (now (out .entry)) (packed widths values)) × (now (out .exit) ≡ written (now (out .entry)) (packed widths values)) ⌝ }
+{
+    if fits(widths, out.len()) {
+        store(out, widths, values);
+        return true;
+    }
+    false
+}
+
+// Whether numbers of these widths need no more than so many bytes.
+fn fits(widths: [usize; 18], room: usize) -> bool
+    ensures { λ r. ⌜ r ≡ leb (total widths) room ⌝ }
+{
+    let mut left = room;
+    let mut i = 0;
+    while i < 18 {
+        let width = widths[i];
+        if left < width {
+            return false;
+        }
+        left -= width;
+        i += 1;
+    }
+    true
+}
+
+fn store(out: &mut [u8], widths: [usize; 18], values: [u64; 18])
+    requires { ⌜ total widths ≤ length (now out) ⌝ }
+    ensures { λ _. ⌜ now (out .exit) ≡ sets (now (out .entry)) 0 (packed widths values) ⌝ }
+{
+    let mut at = 0;
+    let mut i = 0;
+    while i < 18 {
+        let width = widths[i];
+        put_number(out, at, width, values[i]);
+        at += width;
+        i += 1;
+    }
+}

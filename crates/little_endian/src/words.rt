@@ -1,0 +1,19 @@
+// Signed numbers as words of 64 bits, in two's complement.
+ghost use mathlib.Core.Path.{_≡_};
+ghost use Rattle.little_endian.specs.Bytes.{signedBits, signedOf};
+
+pub fn signed_bits(k: i64) -> u64
+    ensures { λ r. ⌜ r ≡ signedBits k ⌝ }
+{
+    if k < 0 { !((!k) as u64) } else { k as u64 }
+}
+
+pub fn signed_of(b: u64) -> i64
+    ensures { λ r. ⌜ r ≡ signedOf b ⌝ }
+{
+    if b < 0x8000_0000_0000_0000 {
+        b as i64
+    } else {
+        !((!b) as i64)
+    }
+}

@@ -1,0 +1,54 @@
+-- `entries::numbers_of` meets its contract, by what its calls ensure.
+use mir.Facts.{toZ-ofZ}
+use mir.Syntax.{w64}
+use mir.Val.{SFits}
+use borrow.Author.Needs.{needs}
+use Rattle.records.proofs.entries.numbers_of.Statement.{statement}
+use Rattle.records.proofs.entries.numbers_of.Tie as tie
+
+signed-bits-requires : tie.Need-signed-bits-requires
+signed-bits-requires c κs = search needs
+
+cast-t3 : tie.Need-cast-t3
+cast-t3 c = search needs
+
+cast-t4 : tie.Need-cast-t4
+cast-t4 c = search needs
+
+to-bits-requires : tie.Need-to-bits-requires
+to-bits-requires c κs = search needs
+
+to-bits-requires-2 : tie.Need-to-bits-requires-2
+to-bits-requires-2 c κs = search needs
+
+to-bits-requires-3 : tie.Need-to-bits-requires-3
+to-bits-requires-3 c κs = search needs
+
+to-bits-requires-4 : tie.Need-to-bits-requires-4
+to-bits-requires-4 c κs = search needs
+
+to-bits-requires-5 : tie.Need-to-bits-requires-5
+to-bits-requires-5 c κs = search needs
+
+to-bits-requires-6 : tie.Need-to-bits-requires-6
+to-bits-requires-6 c κs = search needs
+
+returns : tie.Need-returns
+returns c =
+    let f : SFits w64 (c .before .before .before .before .before .before .before .before .before .before .args .e .lower) = search (needs, c .before .before .before .before .before .before .before .before .before .struct-told .given) in
+    simp (c .to-bits6 .ensures, c .before .to-bits5 .ensures, c .before .before .to-bits4 .ensures, c .before .before .before .to-bits3 .ensures, c .before .before .before .before .to-bits2 .ensures, c .before .before .before .before .before .to-bits .ensures, c .before .before .before .before .before .before .before .before .signed-bits .ensures, toZ-ofZ f)
+
+pub numbers-of-spec : {M : Type 1} → statement M
+numbers-of-spec =
+    tie.close
+    (tie.spec
+    signed-bits-requires
+    cast-t3
+    cast-t4
+    to-bits-requires
+    to-bits-requires-2
+    to-bits-requires-3
+    to-bits-requires-4
+    to-bits-requires-5
+    to-bits-requires-6
+    returns)

@@ -1,0 +1,16 @@
+-- `floats::float_at` meets its contract, by what its two calls ensure.
+use borrow.Author.Needs.{needs}
+use Rattle.records.proofs.floats.float_at.Statement.{statement}
+use Rattle.records.proofs.floats.float_at.Tie as tie
+
+word-at-requires : tie.Need-word-at-requires
+word-at-requires c κs = search needs
+
+from-bits-requires : tie.Need-from-bits-requires
+from-bits-requires c κs = search needs
+
+returns : tie.Need-returns
+returns c = simp (c .from-bits .ensures, c .before .word-at .ensures)
+
+pub float-at-spec : {M : Type 1} → statement M
+float-at-spec = tie.close (tie.spec word-at-requires from-bits-requires returns)
