@@ -1,20 +1,19 @@
 -- What holds of every crossing's bracket: along the halving the interval stays within its pair, 2^(20−h) wide, with its ends on opposite sides, and halving comes to no other interval at which it stops.
 use mathlib.Core.Path.{_≡_, refl, sym, ap, _∙_, subst}
-use mathlib.Core.Bool.{Bool, true, false, cond, _||_}
+use mathlib.Core.Bool.{Bool, true, false, cond}
 use mathlib.Core.Logic.{_⊎_, inl, inr}
 use Prim.Native.Nat.{ℕ, zero, suc, _+_, _-_, _^_, _≤_, _<_}
-use native.Mathlib.Nat.{add-comm}
 use native.Mathlib.Omega.{arith}
 use lib.IntN.{ℤ, pos, _+ℤ_, +ℤ-idr, +ℤ-assoc}
 use Rattle.bisection.specs.declared.Bracket.{Bracket}
 use Rattle.bisection.specs.declared.side.Side.{Side}
 use Rattle.bisection.specs.Sides.{opposite, isUnknown}
 use Rattle.bisection.specs.Stations.{stationOf}
-use Rattle.bisection.specs.Halving.{same, middleOf, stops, bisectOf}
+use Rattle.bisection.specs.Halving.{middleOf, stops, bisectOf}
 use Rattle.bisection.specs.Pairs.{crosses, bracketOf}
 use Rattle.bisection.specs.Brackets.{Comes, start, keeps-lower, keeps-upper, IsBracket}
 use Rattle.bisection.proofs.Places.{next-station}
-use Rattle.bisection.proofs.Halving.{double, same-side, lower-known, upper-known, up-less, middle, top, up-twice, middle-is, stops-is, step}
+use Rattle.bisection.proofs.Halving.{same-side, lower-known, upper-known, up-less, middle, top, up-twice, middle-is, stops-is, step}
 
 module _ (σ : ℤ → Side) (a b : ℤ) where
   -- the interval from x, of the width 2^n, in the halving of the pair from a to b

@@ -1,24 +1,17 @@
--- Halving, one step at a time: in an interval of the width 2^(n+1) the middle is 2^n above the lower end and is neither end, so that the definition's step is one choice; and what `bisect` asks of an interval.
-use mathlib.Core.Path.{_≡_, refl, sym, ap, _∙_, subst}
-use mathlib.Core.Bool.{Bool, true, false, cond, _||_, or-false}
-use Prim.Native.Nat.{ℕ, zero, suc, _+_, _*_, _-_, _/_, _^_, _≤_, _<_}
+-- Halving, one step at a time: in an interval of the width 2^(n+1) the middle is 2^n above the lower end and is neither end, so that the definition's step is one choice.
+use mathlib.Core.Path.{_≡_, refl, sym, ap, _∙_}
+use mathlib.Core.Bool.{true, false, cond, or-false}
+use Prim.Native.Nat.{ℕ, suc, _+_, _-_, _/_, _^_, _≤_}
 use native.Mathlib.Nat.{pow-suc}
 use native.Mathlib.Omega.{arith}
 use borrow.Author.Tests.{ne-eqb}
 use lib.Pow.{pow-pos}
-use lib.Dec.{eqb}
 use lib.IntN.{ℤ, pos, negsuc, negℤ, _+ℤ_, _-ℤ_, +ℤ-assoc, +ℤ-comm, +ℤ-invl, +ℤ-idl, +ℤ-negℤ-cancel}
 use lib.Signed.{mag, quotZ}
-use mir.Syntax.{w64}
-use mir.Val.{SFits, toZ, ofZ}
-use mir.Facts.{toZ-ofZ}
-use Rattle.bisection.specs.declared.Bracket.{Bracket}
 use Rattle.bisection.specs.declared.side.Side.{Side}
 use Rattle.bisection.specs.declared.side.Side.the-variants.{Below, NotBelow, Unknown}
 use Rattle.bisection.specs.Sides.{opposite, isUnknown}
 use Rattle.bisection.specs.Halving.{same, middleOf, stops, bisectOf}
-use Rattle.bisection.specs.Interval.{Interval}
-use Rattle.bisection.proofs.Places.{mag-add}
 
 pub double : (n : ℕ) → 2 ^ suc n ≡ 2 ^ n + 2 ^ n
 double n = omega (arith, pow-suc 2 n)
@@ -99,10 +92,10 @@ module _ (a : ℤ) (n : ℕ) where
   pub middle-is : middleOf a top ≡ middle
   middle-is = ap (λ (z : ℤ). quotZ z (pos 2)) sum-is ∙ quot-twice middle
 
-  pub not-low : middle ≡ a → ⊥
+  not-low : middle ≡ a → ⊥
   not-low e = omega (arith, up-same a (2 ^ n) e, pow-pos n)
 
-  pub not-high : middle ≡ top → ⊥
+  not-high : middle ≡ top → ⊥
   not-high e = omega (arith, up-same middle (2 ^ n) (up-twice ∙ sym e), pow-pos n)
 
   wide : same (top -ℤ a) (pos 1) ≡ false

@@ -1,6 +1,6 @@
 -- What `bisect` asks of an interval and finds in it: the machine's numbers for the width and the middle are the definition's, each half is an interval again, and each way of the code is the definition's.
 use mathlib.Core.Path.{_≡_, refl, sym, ap, _∙_, subst}
-use mathlib.Core.Bool.{Bool, true, false, cond}
+use mathlib.Core.Bool.{true, false, cond}
 use Prim.Native.Nat.{ℕ, zero, suc, _+_, _-_, _^_, _≤_, _<_}
 use native.Mathlib.Omega.{arith}
 use lib.Pow.{pow-pos}
@@ -9,10 +9,9 @@ use lib.Signed.{mag, quotZ}
 use mir.Syntax.{w64}
 use mir.Val.{SFits, toZ, ofZ}
 use mir.Facts.{toZ-ofZ}
-use Rattle.bisection.specs.declared.Bracket.{Bracket}
 use Rattle.bisection.specs.declared.side.Side.{Side}
 use Rattle.bisection.specs.Sides.{opposite, isUnknown}
-use Rattle.bisection.specs.Halving.{middleOf, bisectOf}
+use Rattle.bisection.specs.Halving.{bisectOf}
 use Rattle.bisection.specs.Interval.{Interval}
 use Rattle.bisection.proofs.Places.{mag-add}
 use Rattle.bisection.proofs.Halving.{double, up-less, middle, top, up-twice, sum-is, middle-is, step, mag-twice}

@@ -1,12 +1,12 @@
 -- How large a station's place can be, so that an i64 holds it with room: bounds on `mag` of sums and products.
-use mathlib.Core.Path.{_≡_, refl, sym, ap, _∙_}
+use mathlib.Core.Path.{_≡_, sym, ap, _∙_}
 use mathlib.Core.Bool.{Bool, true, false, cond, not}
 use Prim.Native.Nat.{ℕ, zero, suc, _+_, _*_, _-_, _^_, _≤_, _<_, zero-le}
 use native.Mathlib.Omega.{arith}
 use native.Mathlib.Nat.{le-refl, le-suc}
 use native.Mathlib.Numerals.{add-one}
-use lib.Dec.{T, eqb, ltb, ltb→lt, nltb→le}
-use lib.IntN.{ℤ, pos, negsuc, _+ℤ_, _-ℤ_, _*ℤ_, negℤ, subℕ, sucℤ, sucℤ-+ℤ, sucℤ-*ℤ}
+use lib.Dec.{T, eqb, ltb, ltb→lt}
+use lib.IntN.{ℤ, pos, negsuc, _+ℤ_, _*ℤ_, negℤ, subℕ, sucℤ-+ℤ, sucℤ-*ℤ}
 use lib.Signed.{mag}
 use mir.Syntax.{w64}
 use mir.Val.{SFits, toZ, ofZ}

@@ -12,6 +12,6 @@ use Rattle.bisection.specs.Halving.{bisectOf}
 unfoldable pub crosses : (ℤ → Side) → ℕ → Bool
 crosses σ i = opposite (σ (stationOf i)) (σ (stationOf (i + 1)))
 
--- the bracket of a pair: where its halving stops
+-- the bracket of a pair: where its halving stops. A pair that does not cross is halved by the same rule, and nothing is said of its ends' sides
 unfoldable pub bracketOf : (ℤ → Side) → ℕ → Bracket
 bracketOf σ i = bisectOf σ 20 0 (stationOf i) (stationOf (i + 1))

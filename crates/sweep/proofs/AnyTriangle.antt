@@ -1,11 +1,10 @@
 -- What the sweep says of triangles, revolutions and wanted times that no question leads to; and that a side is known only where there is a finite time.
-use mathlib.Core.Path.{_≡_, refl, sym, ap, _∙_}
-use mathlib.Core.Bool.{Bool, true, false, cond, not, _||_}
-use mathlib.Core.Logic.{_⊎_, inl, inr, ⊎-elim}
+use mathlib.Core.Path.{_≡_, refl}
+use mathlib.Core.Bool.{Bool, true, false, not, _||_}
+use mathlib.Core.Logic.{_⊎_, ⊎-elim}
 use Prim.Native.Nat.{ℕ, _+_, _≤_, _<_}
 use native.Mathlib.Omega.{arith}
 use borrow.Author.Tests.{lt-ltb}
-use lib.Dec.{leb, ltb}
 use lib.IntN.{ℤ}
 use lib.Ieee.{Float, nan, inf, fin, lt}
 use lib.ListN.{length}
@@ -13,15 +12,14 @@ use Rattle.float64.specs.Notation.{_≺_, 1F}
 use Rattle.float64.specs.Value.{magnitudeOf, finiteOf}
 use Rattle.geometry.specs.declared.Triangle.{Triangle}
 use Rattle.flight_time.specs.Steps.{outsideRange, mostRevolutions}
-use Rattle.flight_time.specs.Time.{timeOf, voidIf}
+use Rattle.flight_time.specs.Time.{timeOf}
 use Rattle.flight_time.specs.declared.Place.{Place}
 use Rattle.flight_time.specs.declared.Place.the-variants.{Timed, Void}
 use Rattle.flight_time.proofs.Laws.{timed-finite}
 use Rattle.bisection.specs.declared.side.Side.{Side}
-use Rattle.bisection.specs.declared.side.Side.the-variants.{Below, NotBelow, Unknown}
-use Rattle.sweep.specs.declared.Walk.{Walk}
-use Rattle.sweep.specs.declared.Walk.the-variants.{AllTimed, SomeVoid, NinthFound}
-use Rattle.bisection.specs.Sides.{sideOf, sideAt, opposite, isUnknown}
+use Rattle.bisection.specs.declared.side.Side.the-variants.{Below, Unknown}
+use Rattle.sweep.specs.declared.Walk.the-variants.{SomeVoid}
+use Rattle.bisection.specs.Sides.{sideOf, sideAt, isUnknown}
 use Rattle.bisection.specs.Stations.{stationOf, lastOf}
 use Rattle.bisection.specs.Pairs.{crosses}
 use Rattle.sweep.specs.Crossings.{crossings, sweepOf}

@@ -7,13 +7,11 @@ use native.Mathlib.Numerals.{add-one}
 use native.Mathlib.Nat.{add-zero, add-assoc}
 use native.Mathlib.Omega.{arith}
 use borrow.Author.Tests.{le-ltb, lt-ltb}
-use lib.Dec.{ltb}
-use lib.ListN.{length, take, set, replicate, length-append}
+use lib.ListN.{length, set, replicate, length-append}
 use lib.Seq.{take-all, take-at, set-append-seam, append-snoc}
 use lib.IntN.{ℤ}
 use Rattle.bisection.specs.declared.Bracket.{Bracket}
 use Rattle.bisection.specs.declared.side.Side.{Side}
-use Rattle.sweep.specs.declared.Walk.{Walk}
 use Rattle.bisection.specs.Pairs.{crosses, bracketOf}
 use Rattle.sweep.specs.Crossings.{upTo, keep, some, crossings, someVoid, brackets, blank, eight, walkOf, reported, sweepOf}
 

@@ -1,13 +1,13 @@
--- What the sweep's definition says, in words that a person can hold beside 01: over any side of each place, for the stations from 0 to `last`. The brackets' own theorems are `bracket-holds` and `only-one` in BracketLaws.
+-- What the sweep's definition says, in words that a person can hold beside 01: over any side of each place, for the stations from 0 to `last`. The brackets' own theorems are `bracket-holds` and `only-one` in BracketLaws of the crate bisection.
 use mathlib.Core.Path.{_≡_, refl, sym, ap, _∙_, subst}
-use mathlib.Core.Bool.{Bool, true, false, cond, not, _||_}
+use mathlib.Core.Bool.{Bool, true, false}
 use mathlib.Core.Logic.{_⊎_, inl, inr, ⊎-elim, _↔_}
-use mathlib.Core.List.{List, [], _∷_, _++_, map}
+use mathlib.Core.List.{List, [], _∷_, _++_}
 use Prim.Native.Nat.{ℕ, zero, suc, _+_, _-_, _*_, _^_, _≤_, _<_, min}
 use native.Mathlib.Omega.{arith}
 use borrow.Author.Tests.{ltb-true, ltb-false, lt-ltb, le-ltb, ne-eqb}
 use lib.Dec.{ltb}
-use lib.ListN.{length, getD, take, replicate, length-map, length-take, length-append, length-replicate, List·getD-append, List·getD-map, List·getD-eq-default}
+use lib.ListN.{length, getD, take, replicate, length-map, length-take, length-append, length-replicate, List·getD-append, List·getD-map}
 use lib.Seq.{getD-take, take-all, take-append-seam}
 use native.Mathlib.Nat.{add-zero, add-assoc}
 use native.Mathlib.Numerals.{add-one}
@@ -16,14 +16,12 @@ use Rattle.flight_time.specs.Steps.{lowest, highest, highestRevolving}
 use Rattle.bisection.specs.declared.Bracket.{Bracket}
 use Rattle.bisection.specs.declared.side.Side.{Side}
 use Rattle.bisection.specs.declared.side.Side.the-variants.{Below, NotBelow, Unknown}
-use Rattle.sweep.specs.declared.Walk.{Walk}
 use Rattle.sweep.specs.declared.Walk.the-variants.{AllTimed, SomeVoid, NinthFound}
 use Rattle.bisection.specs.Sides.{opposite, isUnknown}
 use Rattle.bisection.specs.Stations.{stationOf, lastOf}
 use Rattle.bisection.specs.Pairs.{crosses, bracketOf}
-use Rattle.sweep.specs.Crossings.{upTo, keep, some, crossings, someVoid, brackets, blank, eight, walkOf, reported, sweepOf}
+use Rattle.sweep.specs.Crossings.{upTo, some, crossings, someVoid, brackets, blank, walkOf, reported, sweepOf}
 use Rattle.sweep.specs.Listed.{Listed, Rising}
-use Rattle.bisection.specs.Brackets.{IsBracket}
 use Rattle.bisection.proofs.Halving.{same-side, lower-known, upper-known}
 use Rattle.bisection.proofs.Places.{next-station}
 use Rattle.bisection.proofs.BracketLaws.{bracket-holds}

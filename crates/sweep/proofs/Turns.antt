@@ -14,7 +14,6 @@ use Rattle.bisection.specs.declared.side.Side.the-variants.{Unknown}
 use Rattle.bisection.specs.Sides.{opposite, isUnknown}
 use Rattle.bisection.specs.Stations.{stationOf}
 use Rattle.bisection.specs.Pairs.{crosses, bracketOf}
-use Rattle.sweep.specs.declared.Walk.{Walk}
 use Rattle.sweep.specs.Crossings.{upTo, keep, some, crossings, someVoid, brackets, blank, eight, walkOf, sweepOf}
 use Rattle.sweep.proofs.Lists.{some-next, eight-set, brackets-next, all-passed, left-at}
 
@@ -53,20 +52,20 @@ pair-at σ (suc j) e = let k : suc j - 1 ≡ j = omega arith in (omega arith, rw
 
 module _ {σ : ℤ → Side} {last : ℕ} {list : List Bracket} {count : ℕ} {void : Bool} {low : Side} {i : ℕ} (v : Passed σ last list count void low i) where
   -- every station is passed
-  pub done : last < i → record { list = list; count = count; walk = walkOf false void } ≡ sweepOf σ last
+  pub done : {ninth : Bool} → ninth ≡ false → last < i → record { list = list; count = count; walk = walkOf ninth void } ≡ sweepOf σ last
   unfolding someVoid
-  done h =
+  done n h =
       let e : i - 1 ≡ last = omega (arith, v .within) in
       let f : i ≡ last + 1 = omega (arith, v .within) in
-      rw (v .found, v .counted, v .voided, e, f) (all-passed σ last (subst (λ (k : ℕ). length (brackets σ k) ≤ 8) e (omega (arith, v .counted, v .most))))
+      rw (v .found, v .counted, v .voided, n, e, f) (all-passed σ last (subst (λ (k : ℕ). length (brackets σ k) ≤ 8) e (omega (arith, v .counted, v .most))))
 
   module _ {high : Side} (h : high ≡ σ (stationOf i)) where
     -- the pair below station i crosses
     pub pair : opposite low high ≡ true → (1 ≤ i) × (crosses σ (i - 1) ≡ true)
     pair o = pair-at σ i (rw (v .here, h) at o)
 
-    pub too-many : i ≤ last → count ≡ 8 → opposite low high ≡ true → record { list = list; count = count; walk = walkOf true void } ≡ sweepOf σ last
-    too-many l e o = rw (v .found, e) (left-at σ (i - 1) last void (omega (arith, pair o .0)) (sym (v .counted) ∙ e) (pair o .1))
+    pub too-many : {ninth : Bool} → ninth ≡ true → i ≤ last → count ≡ 8 → opposite low high ≡ true → record { list = list; count = count; walk = walkOf ninth void } ≡ sweepOf σ last
+    too-many n l e o = rw (v .found, n, e) (left-at σ (i - 1) last void (omega (arith, pair o .0)) (sym (v .counted) ∙ e) (pair o .1))
 
     module _ {unknown : Bool} (u : unknown ≡ isUnknown high) (l : i ≤ last) where
       -- the invariant past station i, with what the pair below it added

@@ -2,11 +2,8 @@
 use Prim.Native.Nat.{ℕ, _+_, _-_, _^_, _<_}
 use mathlib.Core.Path.{_≡_, sym, ap, _∙_, subst}
 use native.Mathlib.Omega.{arith}
-use lib.IntN.{ℤ}
 use mir.Facts.{toZ-ofZ}
-use Rattle.bisection.specs.declared.Bracket.{Bracket}
 use Rattle.bisection.specs.Sides.{sideAt}
-use Rattle.bisection.specs.Halving.{bisectOf}
 use Rattle.bisection.proofs.Intervals.{renamed, at-one, width-fits, width-bits, left, mid, sum-fits, halfway-fits, mid-read, lower-next, upper-next, at-void, in-lower, in-upper}
 use borrow.Fn.Kinds.{In}
 use borrow.Fn.PlainCycle.{Measures, is, falls, and}
@@ -120,8 +117,7 @@ module _ (t : ℕ) where
       let s = o .before .before .before in
       let k = s .before in
       let v = k .before .pre .1 in
-      c .bisect .ensures
-      ∙ rw (mid-read v (more k) (k .before .fits .a) (k .before .fits .b), toZ-ofZ (k .before .fits .a))
+      rw (c .bisect .ensures, mid-read v (more k) (k .before .fits .a) (k .before .fits .b), toZ-ofZ (k .before .fits .a))
       (in-lower v (more k) (here s) (sym (o .before .before .is-unknown .ensures) ∙ o .before .if2 .left) (sym (o .are-opposite .ensures) ∙ c .before .if3 .taken))
 
   returns-4 : bisect-lts.Need-returns-4 (calls t) (bisect-at t) bisect.Post
@@ -130,8 +126,7 @@ module _ (t : ℕ) where
       let s = o .before .before .before in
       let k = s .before in
       let v = k .before .pre .1 in
-      c .bisect2 .ensures
-      ∙ rw (mid-read v (more k) (k .before .fits .a) (k .before .fits .b), toZ-ofZ (k .before .fits .b))
+      rw (c .bisect2 .ensures, mid-read v (more k) (k .before .fits .a) (k .before .fits .b), toZ-ofZ (k .before .fits .b))
       (in-upper v (more k) (here s) (sym (o .before .before .is-unknown .ensures) ∙ o .before .if2 .left) (sym (o .are-opposite .ensures) ∙ c .before .if3 .left))
 
 pub +bisect-spec : {M : Type 1} → statement M

@@ -33,7 +33,7 @@ returns : tie.Need-returns
 unfolding bracketOf
 returns c =
     let k = c .before .before in
-    c .bisect .ensures ∙ rw (upper-read (k .station .ensures) (omega arith), station-read (k .station .ensures) (omega arith))
+    rw (c .bisect .ensures, upper-read (k .station .ensures) (omega arith), station-read (k .station .ensures) (omega arith))
 
 pub bracket-of-spec : {M : Type 1} → statement M
 bracket-of-spec = tie.close (tie.spec station-requires side-at-requires add-bisect bisect-requires returns)

@@ -79,8 +79,8 @@ returns c =
     let k = c .before .before in
     rw (c .walk-of .ensures, ← k .before .last-station .ensures)
     (⊎-elim
-    (λ w. rw (lt-leb _ _ (w .left)) (done (k .stations .inv) (w .left)))
-    (λ w. rw (le-leb _ _ (w .0 .taken)) (too-many (k .stations .inv) (w .1 .ensures) (w .0 .taken) (w .4 .taken) (sym (w .2 .ensures) ∙ w .3 .taken)))
+    (λ w. done (k .stations .inv) (lt-leb _ _ (w .left)) (w .left))
+    (λ w. too-many (k .stations .inv) (w .1 .ensures) (le-leb _ _ (w .0 .taken)) (w .0 .taken) (w .4 .taken) (sym (w .2 .ensures) ∙ w .3 .taken))
     (c .before .stations-test .came))
 
 pub find-crossings-spec : {M : Type 1} → statement M
