@@ -27,8 +27,8 @@ pub struct Bracket {
     pub halvings: u32,
 }
 
-// The bracket of the stations i and i + 1: where the halving of this pair stops. It encloses a
-// crossing if the pair crosses.
+// The bracket of the stations i and i + 1: where the halving of this pair stops. Its ends are on
+// opposite sides if the pair's are.
 pub fn bracket_of(triangle: Triangle, m: u16, wanted: f64, i: u16) -> Bracket
     ensures { λ r. ⌜ r ≡ bracketOf (sideAt triangle m wanted) i ⌝ }
 {

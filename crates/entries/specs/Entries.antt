@@ -18,7 +18,7 @@ use Rattle.velocity.specs.declared.Velocities.{Velocities}
 unfoldable pub placeOf : Problem → ℤ → Place
 placeOf p k = timeOf (p .triangle) k (p .revolutions)
 
--- whether the upper end is chosen, of the places of both ends; a crossing's bracket has times at both
+-- whether the upper end is chosen, of the places of both ends; the lower where one is void, which no end of a crossing's bracket is
 abbrev pub upperOf : Place → Place → Float → Bool
 upperOf (Timed lower) (Timed upper) wanted = upperChosen lower upper wanted
 upperOf (Timed lower) Void wanted = false

@@ -10,8 +10,8 @@ use crate::entry_for;
 use bisection::Bracket;
 use entrance::Problem;
 
-// Writes the head, and the entries of the first `count` brackets after it; without room for them it
-// changes nothing.
+// Writes the head, and the entries of the first `count` brackets after it, of all eight where it is
+// above 8; without room for them it changes nothing.
 pub fn write_answer(p: Problem, list: [Bracket; 8], count: usize, out: &mut [u8])
     ensures { λ _. ⌜ now (out .exit) ≡ written (now (out .entry)) (answerBytes (p .job) (p .revision) (map (entryFor p) (take count list))) ⌝ }
 {

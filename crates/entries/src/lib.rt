@@ -95,7 +95,7 @@ pub(crate) fn at_most_eight(count: usize) -> usize
     if count < 8 { count } else { 8 }
 }
 
-// Whether the velocities of the first `count` brackets are finite.
+// Whether the velocities of the first `count` brackets are finite; of all eight where it is above 8.
 pub fn all_finite(p: Problem, list: [Bracket; 8], count: usize) -> bool
     ensures { λ r. ⌜ r ≡ every (finiteFor p) (take count list) ⌝ }
 {

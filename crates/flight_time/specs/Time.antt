@@ -40,7 +40,7 @@ timeOf t k m =
     afterStage (revolvedOf (directOf (t .lambda) (v .eta) g) u m) (λ time.
     voidIf (not (finiteOf time)) (Timed time)))))
 
--- the bits of a time; where there is none, all ones, a choice of ours: a NaN's pattern, and no time is a NaN
+-- the bits of a time; where there is none, all ones, a choice of ours: a NaN's pattern, and no time of `timeOf` is a NaN
 unfoldable pub placeBits : Place → ℕ
 placeBits (Timed t) = bitsOf t
 placeBits Void = 0xFFFF_FFFF_FFFF_FFFF

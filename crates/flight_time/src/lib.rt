@@ -61,7 +61,7 @@ pub fn time_at(triangle: Triangle, k: i64, m: u16) -> Place
     }
 }
 
-// The bits of a place's time, and all ones where it is void: a NaN's pattern, and no time is a NaN.
+// The bits of a place's time, and all ones where it is void: a NaN's pattern, and `time_at` gives none.
 pub fn place_bits(place: Place) -> u64
     ensures { λ r. ⌜ r ≡ placeBits place ⌝ }
 {

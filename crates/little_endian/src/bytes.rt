@@ -5,7 +5,7 @@ ghost use lib.ListN.{length, getD};
 ghost use lib.Seq.{sets};
 ghost use Rattle.little_endian.specs.Bytes.{bytesOf, numberAt};
 
-// The byte `i` past `at`. One past the end counts as 0.
+// The byte `i` past `at`, 0 where that is past the end.
 fn byte_at(s: &[u8], at: usize, i: usize) -> u64
     ensures { λ r. ⌜ (r ≡ getD (now (s .entry)) (at + i) 0) × (r < 256) ⌝ }
 {

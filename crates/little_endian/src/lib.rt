@@ -1,4 +1,4 @@
-// Numbers in slices of bytes, little-endian. Reading takes any bytes and any place, one past the end counting as 0; writing
+// Numbers in slices of bytes, little-endian. Reading takes any bytes and any place, a byte past the end counting as 0; writing
 // starts at the buffer's first byte, and where there is no room it changes nothing and says so.
 mod bytes;
 mod tables;

@@ -1,4 +1,5 @@
-// Numbers one after another from the start of a buffer, by a table of their widths in bytes that ends with zeros.
+// Numbers one after another from the start of a buffer, by a table of their widths in bytes; a number of the
+// width 0 takes no place.
 ghost use mathlib.Core.Path.{_≡_};
 ghost use Prim.Native.Nat.{_≤_};
 ghost use lib.Dec.{leb};

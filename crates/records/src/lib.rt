@@ -1,4 +1,4 @@
-// The records of 01, read from bytes and written to them. Reading takes any bytes, one past the end counting as 0; writing
+// The records of 01, read from bytes and written to them. Reading takes any bytes, a byte past the end counting as 0; writing
 // starts at the buffer's first byte, and where there is no room it changes nothing and says so.
 mod entries;
 mod floats;

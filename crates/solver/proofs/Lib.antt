@@ -5,3 +5,4 @@ pub mod Answered
 pub mod Demand
 pub mod WorkedCases
 pub mod NeverBoth
+pub mod Whole

@@ -1,4 +1,4 @@
--- What is demanded of `solveOf`, from bytes to bytes, point by point. Definitions only; proofs/Demand.antt shows each point for every list of bytes and every buffer.
+-- What is demanded of `solveOf`, from bytes to bytes, point by point, and at the end the whole (`Demanded`). Definitions only.
 use mathlib.Core.Path.{_≡_}
 use mathlib.Core.Bool.{Bool, true, false, cond, not, _&&_}
 use mathlib.Core.Logic.{_⊎_}
@@ -27,7 +27,7 @@ use Rattle.solver.specs.declared.Outcome.the-variants.{Refused, Answered
 use Rattle.entries.specs.Entries.{placeOf, velocitiesAt, endNumber, entryFor}
 use Rattle.solver.specs.Crossed.{sidesOf, lastStation}
 use Rattle.solver.specs.Table.{lateChecks}
-use Rattle.solver.specs.Solve.{Solved, solveOf, refusalFor, recordOf, Response, responseOf}
+use Rattle.solver.specs.Solve.{Solved, solveOf, longest, refusalFor, recordOf, Response, responseOf}
 
 -- the problem of a question's bytes
 abbrev pub problemFrom : List ℕ → Problem
@@ -152,3 +152,9 @@ pub record Recording (s b : List ℕ) : Type 0 where
   pub starts : take (length (recordOf s)) (responseOf s b .buffer) ≡ recordOf s
   -- asked again over what the first call left, nothing changes
   pub again : solveOf s (solveOf s b .buffer) ≡ solveOf s b
+
+-- ---- the whole demand: of every list of bytes and every buffer; of a question past the entrance checks; of its record, given room for the longest
+pub record Demanded : Type 0 where
+  pub first : (s b : List ℕ) → Demand1 s b
+  pub third : (s b : List ℕ) → Past s (length b) → Demand3 s b
+  pub recorded : (s b : List ℕ) → longest ≤ length b → Recording s b

@@ -1,6 +1,6 @@
-// The curve that a question asks about, for hosts that draw it: the wanted time, the stations, and the
-// time at any place. A time is told by its bits, all ones where there is none; a question that does not
-// pass the entrance checks has no time and no station.
+// The curve that a question asks about, for hosts that draw it: the wanted time T*, the stations, and
+// the time T at any place, both as 01 has them and not in seconds. A time is told by its bits, all ones
+// where there is none; a question that does not pass the entrance checks has no time and no station.
 ghost use mathlib.Core.Path.{_≡_};
 ghost use Rattle.bisection.specs.Stations.{stationOf};
 ghost use Rattle.solver.specs.Curve.{wantedBits, stationCount, timeBits};
@@ -27,7 +27,7 @@ pub extern "C" fn lambert_stations(question: &[u8]) -> u64
     }
 }
 
-// The place k of station i, counted from 0.
+// The place k of station i, counted from 0, for any i; which of them a question has is told above.
 #[no_mangle]
 pub extern "C" fn lambert_station(i: u16) -> i64
     ensures { λ r. ⌜ r ≡ stationOf i ⌝ }

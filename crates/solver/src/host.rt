@@ -1,4 +1,5 @@
-// The C interface, for hosts in other languages. A slice is a pointer and a length.
+// The C interface, for hosts in other languages. A slice is a pointer and a length; the memory of a
+// question and of a buffer must not overlap.
 ghost use mathlib.Core.Path.{_≡_};
 ghost use Rattle.solver.specs.Solve.{numberGiven, solveOf, responseOf};
 use crate::Outcome;

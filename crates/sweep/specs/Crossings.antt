@@ -33,7 +33,7 @@ some p (x ∷ xs) = p x || some p xs
 unfoldable pub crossings : (ℤ → Side) → ℕ → List ℕ
 crossings σ last = keep (crosses σ) (upTo last)
 
--- whether some station is void, the first and the last among them
+-- whether some station is void; the first and the last are asked too
 unfoldable pub someVoid : (ℤ → Side) → ℕ → Bool
 someVoid σ last = some (λ i. isUnknown (σ (stationOf i))) (upTo (last + 1))
 

@@ -30,7 +30,7 @@ pub struct Crossings {
     pub walk: Walk,
 }
 
-// The crossings of the wanted time, in the triangle's unit, with m whole revolutions.
+// The crossings of the wanted time T* with m whole revolutions.
 pub fn find_crossings(triangle: Triangle, m: u16, wanted: f64) -> Crossings
     ensures { λ r. ⌜ r ≡ sweepOf (sideAt triangle m wanted) (lastOf m) ⌝ }
 {
