@@ -1,4 +1,5 @@
 -- `entries::numbers_of` meets its contract, by what its calls ensure.
+use native.Mathlib.Omega.{arith}
 use mir.Facts.{toZ-ofZ}
 use mir.Syntax.{w64}
 use mir.Val.{SFits}
@@ -7,31 +8,31 @@ use Rattle.records.proofs.entries.numbers_of.Statement.{statement}
 use Rattle.records.proofs.entries.numbers_of.Tie as tie
 
 signed-bits-requires : tie.Need-signed-bits-requires
-signed-bits-requires c κs = search needs
+signed-bits-requires c κs = tt
 
 cast-t3 : tie.Need-cast-t3
-cast-t3 c = search needs
+cast-t3 c = omega arith
 
 cast-t4 : tie.Need-cast-t4
-cast-t4 c = search needs
+cast-t4 c = omega arith
 
 to-bits-requires : tie.Need-to-bits-requires
-to-bits-requires c κs = search needs
+to-bits-requires c κs = tt
 
 to-bits-requires-2 : tie.Need-to-bits-requires-2
-to-bits-requires-2 c κs = search needs
+to-bits-requires-2 c κs = tt
 
 to-bits-requires-3 : tie.Need-to-bits-requires-3
-to-bits-requires-3 c κs = search needs
+to-bits-requires-3 c κs = tt
 
 to-bits-requires-4 : tie.Need-to-bits-requires-4
-to-bits-requires-4 c κs = search needs
+to-bits-requires-4 c κs = tt
 
 to-bits-requires-5 : tie.Need-to-bits-requires-5
-to-bits-requires-5 c κs = search needs
+to-bits-requires-5 c κs = tt
 
 to-bits-requires-6 : tie.Need-to-bits-requires-6
-to-bits-requires-6 c κs = search needs
+to-bits-requires-6 c κs = tt
 
 returns : tie.Need-returns
 returns c =

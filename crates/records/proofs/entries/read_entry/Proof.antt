@@ -1,4 +1,5 @@
 -- `entries::read_entry` meets its contract: each call reads the field that the layout has at its place.
+use native.Mathlib.Omega.{arith}
 use mir.Facts.{toZ-ofZ}
 use mir.Syntax.{w64}
 use mir.Val.{SFits}
@@ -8,22 +9,22 @@ use Rattle.records.proofs.entries.read_entry.Statement.{statement}
 use Rattle.records.proofs.entries.read_entry.Tie as tie
 
 word-at-requires : tie.Need-word-at-requires
-word-at-requires c κs = search needs
+word-at-requires c κs = tt
 
 signed-of-requires : tie.Need-signed-of-requires
-signed-of-requires c κs = search needs
+signed-of-requires c κs = tt
 
 u32-at-requires : tie.Need-u32-at-requires
-u32-at-requires c κs = search needs
+u32-at-requires c κs = tt
 
 u32-at-requires-2 : tie.Need-u32-at-requires-2
-u32-at-requires-2 c κs = search needs
+u32-at-requires-2 c κs = tt
 
 vector-at-requires : tie.Need-vector-at-requires
-vector-at-requires c κs = search needs
+vector-at-requires c κs = omega arith
 
 vector-at-requires-2 : tie.Need-vector-at-requires-2
-vector-at-requires-2 c κs = search needs
+vector-at-requires-2 c κs = omega arith
 
 returns : tie.Need-returns
 unfolding entryOf

@@ -1,13 +1,12 @@
 -- `floats::float_at` meets its contract, by what its two calls ensure.
-use borrow.Author.Needs.{needs}
 use Rattle.records.proofs.floats.float_at.Statement.{statement}
 use Rattle.records.proofs.floats.float_at.Tie as tie
 
 word-at-requires : tie.Need-word-at-requires
-word-at-requires c κs = search needs
+word-at-requires c κs = tt
 
 from-bits-requires : tie.Need-from-bits-requires
-from-bits-requires c κs = search needs
+from-bits-requires c κs = tt
 
 returns : tie.Need-returns
 returns c = simp (c .from-bits .ensures, c .before .word-at .ensures)

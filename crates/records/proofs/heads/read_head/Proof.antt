@@ -1,23 +1,22 @@
 -- `heads::read_head` meets its contract: each call reads the field that the layout has at its place.
 use Rattle.records.specs.Records.{headOf}
-use borrow.Author.Needs.{needs}
 use Rattle.records.proofs.heads.read_head.Statement.{statement}
 use Rattle.records.proofs.heads.read_head.Tie as tie
 
 u32-at-requires : tie.Need-u32-at-requires
-u32-at-requires c κs = search needs
+u32-at-requires c κs = tt
 
 u16-at-requires : tie.Need-u16-at-requires
-u16-at-requires c κs = search needs
+u16-at-requires c κs = tt
 
 u32-at-requires-2 : tie.Need-u32-at-requires-2
-u32-at-requires-2 c κs = search needs
+u32-at-requires-2 c κs = tt
 
 u32-at-requires-3 : tie.Need-u32-at-requires-3
-u32-at-requires-3 c κs = search needs
+u32-at-requires-3 c κs = tt
 
 u16-at-requires-2 : tie.Need-u16-at-requires-2
-u16-at-requires-2 c κs = search needs
+u16-at-requires-2 c κs = tt
 
 returns : tie.Need-returns
 unfolding headOf

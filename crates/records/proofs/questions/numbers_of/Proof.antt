@@ -1,52 +1,52 @@
 -- `questions::numbers_of` meets its contract, by what its calls ensure.
-use borrow.Author.Needs.{needs}
+use native.Mathlib.Omega.{arith}
 use Rattle.records.proofs.questions.numbers_of.Statement.{statement}
 use Rattle.records.proofs.questions.numbers_of.Tie as tie
 
 cast-t2 : tie.Need-cast-t2
-cast-t2 c = search needs
+cast-t2 c = omega arith
 
 cast-t3 : tie.Need-cast-t3
-cast-t3 c = search needs
+cast-t3 c = omega arith
 
 cast-t4 : tie.Need-cast-t4
-cast-t4 c = search needs
+cast-t4 c = omega arith
 
 cast-t5 : tie.Need-cast-t5
-cast-t5 c = search needs
+cast-t5 c = omega arith
 
 cast-t6 : tie.Need-cast-t6
-cast-t6 c = search needs
+cast-t6 c = omega arith
 
 cast-t7 : tie.Need-cast-t7
-cast-t7 c = search needs
+cast-t7 c = omega arith
 
 cast-t8 : tie.Need-cast-t8
-cast-t8 c = search needs
+cast-t8 c = omega arith
 
 to-bits-requires : tie.Need-to-bits-requires
-to-bits-requires c κs = search needs
+to-bits-requires c κs = tt
 
 to-bits-requires-2 : tie.Need-to-bits-requires-2
-to-bits-requires-2 c κs = search needs
+to-bits-requires-2 c κs = tt
 
 to-bits-requires-3 : tie.Need-to-bits-requires-3
-to-bits-requires-3 c κs = search needs
+to-bits-requires-3 c κs = tt
 
 to-bits-requires-4 : tie.Need-to-bits-requires-4
-to-bits-requires-4 c κs = search needs
+to-bits-requires-4 c κs = tt
 
 to-bits-requires-5 : tie.Need-to-bits-requires-5
-to-bits-requires-5 c κs = search needs
+to-bits-requires-5 c κs = tt
 
 to-bits-requires-6 : tie.Need-to-bits-requires-6
-to-bits-requires-6 c κs = search needs
+to-bits-requires-6 c κs = tt
 
 to-bits-requires-7 : tie.Need-to-bits-requires-7
-to-bits-requires-7 c κs = search needs
+to-bits-requires-7 c κs = tt
 
 to-bits-requires-8 : tie.Need-to-bits-requires-8
-to-bits-requires-8 c κs = search needs
+to-bits-requires-8 c κs = tt
 
 returns : tie.Need-returns
 returns c = simp (c .to-bits8 .ensures, c .before .to-bits7 .ensures, c .before .before .to-bits6 .ensures, c .before .before .before .to-bits5 .ensures, c .before .before .before .before .to-bits4 .ensures, c .before .before .before .before .before .to-bits3 .ensures, c .before .before .before .before .before .before .to-bits2 .ensures, c .before .before .before .before .before .before .before .to-bits .ensures)

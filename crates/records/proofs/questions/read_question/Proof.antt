@@ -1,41 +1,41 @@
 -- `questions::read_question` meets its contract: each call reads the field that the layout has at its place.
+use native.Mathlib.Omega.{arith}
 use Rattle.records.specs.Records.{questionOf}
-use borrow.Author.Needs.{needs}
 use Rattle.records.proofs.questions.read_question.Statement.{statement}
 use Rattle.records.proofs.questions.read_question.Tie as tie
 
 u32-at-requires : tie.Need-u32-at-requires
-u32-at-requires c κs = search needs
+u32-at-requires c κs = tt
 
 u16-at-requires : tie.Need-u16-at-requires
-u16-at-requires c κs = search needs
+u16-at-requires c κs = tt
 
 u32-at-requires-2 : tie.Need-u32-at-requires-2
-u32-at-requires-2 c κs = search needs
+u32-at-requires-2 c κs = tt
 
 u32-at-requires-3 : tie.Need-u32-at-requires-3
-u32-at-requires-3 c κs = search needs
+u32-at-requires-3 c κs = tt
 
 u16-at-requires-2 : tie.Need-u16-at-requires-2
-u16-at-requires-2 c κs = search needs
+u16-at-requires-2 c κs = tt
 
 u8-at-requires : tie.Need-u8-at-requires
-u8-at-requires c κs = search needs
+u8-at-requires c κs = tt
 
 u8-at-requires-2 : tie.Need-u8-at-requires-2
-u8-at-requires-2 c κs = search needs
+u8-at-requires-2 c κs = tt
 
 vector-at-requires : tie.Need-vector-at-requires
-vector-at-requires c κs = search needs
+vector-at-requires c κs = omega arith
 
 vector-at-requires-2 : tie.Need-vector-at-requires-2
-vector-at-requires-2 c κs = search needs
+vector-at-requires-2 c κs = omega arith
 
 float-at-requires : tie.Need-float-at-requires
-float-at-requires c κs = search needs
+float-at-requires c κs = tt
 
 float-at-requires-2 : tie.Need-float-at-requires-2
-float-at-requires-2 c κs = search needs
+float-at-requires-2 c κs = tt
 
 returns : tie.Need-returns
 unfolding questionOf
