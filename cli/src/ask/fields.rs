@@ -1,12 +1,15 @@
 //! The fields of a question from text. Only what a field cannot hold is refused; the rest is the solver's to judge.
 
-/// The bodies that a gravitational parameter is known of, in km³/s², and where the value is from.
+/// The bodies that a gravitational parameter is known of, in km³/s², and where the value is from. It is the
+/// body's own, without its moons.
 pub const BODIES: [(&str, f64, &str); 4] = [
-    ("earth", 398_600.441_8, "WGS 84"),
-    ("moon", 4_902.800_118, "DE440"),
-    ("mars", 42_828.375_816, "DE440, with its moons"),
-    ("sun", 132_712_440_041.279_42, "DE440"),
+    ("earth", 398_600.441_8, "WGS 84, as in GeographicLib 2.1.2"),
+    ("moon", 4_902.800_066_163_796_1, HORIZONS),
+    ("mars", 42_828.373_620_699_09, HORIZONS),
+    ("sun", 132_712_440_041.939_38, HORIZONS),
 ];
+
+const HORIZONS: &str = "JPL's gm_Horizons.pck, as in Skyfield 1.45";
 
 const UNITS: [(&str, f64); 4] = [("s", 1.0), ("min", 60.0), ("h", 3_600.0), ("d", 86_400.0)];
 
