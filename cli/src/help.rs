@@ -38,7 +38,9 @@ Shows records for a person to read: for each transfer its orbit, x of the chosen
 (x = k/2^32), the bracket's width in k and in x, and v1 and v2 in km/s with their sizes; for each
 refusal its number and what that means.
 
-  --questions FILE   the questions that the records answer, shown with them
+  --questions FILE   the questions that the records answer, shown with them, and for each transfer
+                     the velocity changes from a circular orbit through r1, and to one through
+                     r2, both in the transfer's plane and sense (dv1_circular, dv2_circular)
   --json             an object for each record, one a line
   --csv              a line for each transfer or refusal, after a header
 ";

@@ -1,5 +1,6 @@
 //! `show`: records for a person to read, or as JSON or CSV.
 
+mod circular;
 mod comma;
 mod json;
 mod orbit;

@@ -1,5 +1,6 @@
 //! Records as CSV: a line for each transfer or refusal. Fields that do not apply are empty.
 
+use super::circular::{changes, NAMES};
 use super::orbit::{end, kind, size, x_of};
 use super::pairs::Asked;
 use crate::csv::line;
@@ -12,29 +13,25 @@ const TRANSFER: &str =
 const QUESTION: &str = "r1_x,r1_y,r1_z,r2_x,r2_y,r2_z,mu,time,revolutions,way";
 
 pub fn head(with_questions: bool) -> String {
-    let more = if with_questions { format!(",{QUESTION}") } else { String::new() };
+    let more = if with_questions { format!(",{QUESTION},{}", NAMES.join(",")) } else { String::new() };
     format!("{RECORD},{TRANSFER}{more}\r\n")
 }
 
 pub fn record(record: &Record, asked: &Asked) -> String {
     let own = [record.job.to_string(), record.revision.to_string()];
-    let question = match asked {
-        Asked::Unknown => Vec::new(),
-        Asked::NoQuestion => blanks(QUESTION),
-        Asked::Known(question) => question_fields(question),
-    };
     match &record.outcome {
         Outcome::Refused(number) => {
             let meaning = refusal::words(*number);
             let said = ["refused".into(), number.to_string(), meaning, String::new(), String::new()];
-            line(&[&own[..], &said, &blanks(TRANSFER), &question].concat())
+            line(&[&own[..], &said, &blanks(TRANSFER), &asked_fields(asked, None)].concat())
         }
         Outcome::Answered(entries) => {
             let count = entries.len().to_string();
             let text = entries.iter().enumerate().map(|(i, entry)| {
                 let which = (i + 1).to_string();
                 let said = ["answered".into(), String::new(), String::new(), which, count.clone()];
-                line(&[&own[..], &said, &transfer_fields(entry), &question].concat())
+                let asked = asked_fields(asked, Some(entry));
+                line(&[&own[..], &said, &transfer_fields(entry), &asked].concat())
             });
             text.collect()
         }
@@ -56,6 +53,18 @@ fn transfer_fields(entry: &Entry) -> Vec<String> {
         fields.push(float(size(v)));
     }
     fields
+}
+
+/// The question, and what needs it beside a transfer.
+fn asked_fields(asked: &Asked, entry: Option<&Entry>) -> Vec<String> {
+    let (question, changes) = match asked {
+        Asked::Unknown => return Vec::new(),
+        Asked::NoQuestion => (blanks(QUESTION), None),
+        Asked::Known(question) => {
+            (question_fields(question), entry.map(|entry| changes(question, entry).map(float)))
+        }
+    };
+    [question, changes.unwrap_or_default().into()].concat()
 }
 
 fn question_fields(question: &Question) -> Vec<String> {

@@ -1,5 +1,6 @@
 //! A record as a JSON object on a line. Floats have the digits that read back to the same bits.
 
+use super::circular::{changes, NAMES};
 use super::orbit::{end, kind, size, x_of};
 use super::pairs::Asked;
 use crate::refusal;
@@ -15,7 +16,7 @@ pub fn record(record: &Record, asked: &Asked) -> String {
             );
         }
         Outcome::Answered(entries) => {
-            let entries: Vec<String> = entries.iter().map(transfer).collect();
+            let entries: Vec<String> = entries.iter().map(|entry| transfer(entry, asked)).collect();
             text += &format!(",\"outcome\":\"answered\",\"transfers\":[{}]", entries.join(","));
         }
     }
@@ -27,9 +28,9 @@ pub fn record(record: &Record, asked: &Asked) -> String {
     text + "}\n"
 }
 
-fn transfer(entry: &Entry) -> String {
+fn transfer(entry: &Entry, asked: &Asked) -> String {
     let (k, width) = (entry.chosen(), entry.width());
-    let fields = [
+    let mut fields = vec![
         ("orbit", string(kind(entry))),
         ("x", float(x_of(k))),
         ("k", k.to_string()),
@@ -44,6 +45,9 @@ fn transfer(entry: &Entry) -> String {
         ("v2", list(entry.v2)),
         ("v2_size", float(size(entry.v2))),
     ];
+    if let Asked::Known(question) = asked {
+        fields.extend(NAMES.into_iter().zip(changes(question, entry).map(float)));
+    }
     object(&fields)
 }
 

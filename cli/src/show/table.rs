@@ -1,5 +1,7 @@
-//! Records as a table. A record's first line has its job and revision; a transfer takes two lines, v1 and v2.
+//! Records as a table. A record's first line has its job and revision; a transfer takes two lines, v1 and v2, and a
+//! third where its question is at hand.
 
+use super::circular::changes;
 use super::orbit::{end, kind, size, x_of};
 use super::pairs::Asked;
 use crate::refusal;
@@ -25,6 +27,9 @@ pub fn record(record: &Record, asked: &Asked) -> String {
         Outcome::Answered(entries) => {
             for (i, entry) in entries.iter().enumerate() {
                 lines.extend(entry_lines(entry, &format!("{} of {}", i + 1, entries.len())));
+                if let Asked::Known(question) = asked {
+                    lines.push(changes_line(changes(question, entry)));
+                }
             }
         }
     }
@@ -49,12 +54,25 @@ fn entry_lines(entry: &Entry, which: &str) -> [String; 2] {
     [format!("{first}  v1{}", velocity(entry.v1)), format!("{rest}  v2{}", velocity(entry.v2))]
 }
 
-/// The components and the size: six decimals, or with an exponent where those would say too little.
+/// The components and the size.
 fn velocity(v: [f64; 3]) -> String {
     let size = size(v);
-    let plain = size == 0.0 || (0.01..1e6).contains(&size);
-    let number = |v: f64| if plain { format!("{v:>13.6}") } else { format!("{v:>13.5e}") };
-    [v[0], v[1], v[2], size].map(number).concat()
+    [v[0], v[1], v[2], size].map(|part| format!("{:>13}", speed(part, size))).concat()
+}
+
+/// A part of something of a size: six decimals, or with an exponent where those would say too little.
+fn speed(part: f64, size: f64) -> String {
+    if size == 0.0 || (0.01..1e6).contains(&size) {
+        format!("{part:.6}")
+    } else {
+        format!("{part:.5e}")
+    }
+}
+
+fn changes_line(changes: [f64; 2]) -> String {
+    let [from, to] = changes.map(|change| speed(change, change));
+    let orbits = "Δv from / to a circular orbit in the transfer's plane and sense";
+    format!("          {orbits}: {from} km/s at r1, {to} km/s at r2")
 }
 
 fn asked_lines(question: &Question) -> Vec<String> {

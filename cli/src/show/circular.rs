@@ -1,0 +1,57 @@
+//! What it takes to leave a circular orbit for a transfer, and a transfer for a circular orbit. The circular orbits
+//! go through the question's positions, in the transfer's own plane and sense.
+
+use super::orbit::size;
+use crate::wire::{Entry, Question};
+
+/// The names of both changes, for other programs; in km/s.
+pub const NAMES: [&str; 2] = ["dv1_circular", "dv2_circular"];
+
+/// The sizes of both changes: at the departure from r1, and at the arrival at r2.
+pub fn changes(question: &Question, entry: &Entry) -> [f64; 2] {
+    let Question { r1, r2, mu, .. } = *question;
+    [change(mu, r1, entry.v1), change(mu, r2, entry.v2)]
+}
+
+/// The size of a velocity less that of the circular orbit: all of the radial speed, and of the transverse speed
+/// what differs from √(mu/r).
+fn change(mu: f64, position: [f64; 3], v: [f64; 3]) -> f64 {
+    let r = size(position);
+    let u = position.map(|component| component / r);
+    let radial = u[0] * v[0] + u[1] * v[1] + u[2] * v[2];
+    let across = [u[1] * v[2] - u[2] * v[1], u[2] * v[0] - u[0] * v[2], u[0] * v[1] - u[1] * v[0]];
+    radial.hypot(size(across) - (mu / r).sqrt())
+}
+
+#[cfg(test)]
+mod tests {
+    use super::*;
+
+    /// Hohmann's transfer from 1 to 3 with mu = 6: a = 2, so that v1² = 6·(2/1 − 1/2) = 9 and
+    /// v2² = 6·(2/3 − 1/2) = 1, while the circular speeds are √6 and √2.
+    #[test]
+    fn a_transfer_of_hohmann() {
+        let (r1, r2) = ([1.0, 0.0, 0.0], [-3.0, 0.0, 0.0]);
+        let question =
+            Question { job: 1, revision: 1, revolutions: 0, long_way: false, r1, r2, mu: 6.0, time: 1.0 };
+        let (v1, v2) = ([0.0, 3.0, 0.0], [0.0, -1.0, 0.0]);
+        let entry = Entry { low: 0, halvings: 20, upper_chosen: false, v1, v2 };
+        let expected = [3.0 - 6f64.sqrt(), 2f64.sqrt() - 1.0];
+        for (found, expected) in changes(&question, &entry).into_iter().zip(expected) {
+            assert!((found - expected).abs() < 1e-15, "{found}, not {expected}");
+        }
+    }
+
+    /// At r = 2 with mu = 8 the circular speed is 2; radial 3 and transverse 6 leave 3 and 4, and so 5.
+    #[test]
+    fn radial_speed_counts_and_the_sense_does_not() {
+        for (position, v) in [
+            ([2.0, 0.0, 0.0], [3.0, 6.0, 0.0]),
+            ([2.0, 0.0, 0.0], [-3.0, -6.0, 0.0]),
+            ([0.0, -2.0, 0.0], [0.0, -3.0, 6.0]),
+        ] {
+            assert_eq!(change(8.0, position, v), 5.0);
+        }
+        assert_eq!(change(8.0, [0.0, 0.0, 2.0], [2.0, 0.0, 0.0]), 0.0);
+    }
+}
