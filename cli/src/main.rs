@@ -6,6 +6,7 @@ mod check;
 mod csv;
 mod help;
 mod options;
+mod orbit;
 #[allow(unsafe_code)]
 mod proved;
 mod refusal;
@@ -14,6 +15,7 @@ mod solve;
 mod stop;
 mod streams;
 mod wire;
+mod words;
 
 use std::process::ExitCode;
 use stop::Stop;

@@ -3,7 +3,6 @@
 mod circular;
 mod comma;
 mod json;
-mod orbit;
 mod pairs;
 mod table;
 

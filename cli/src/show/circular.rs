@@ -1,7 +1,7 @@
 //! What it takes to leave a circular orbit for a transfer, and a transfer for a circular orbit. The circular orbits
 //! go through the question's positions, in the transfer's own plane and sense.
 
-use super::orbit::size;
+use crate::orbit::size;
 use crate::wire::{Entry, Question};
 
 /// The names of both changes, for other programs; in km/s.

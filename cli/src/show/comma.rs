@@ -1,9 +1,9 @@
 //! Records as CSV: a line for each transfer or refusal. Fields that do not apply are empty.
 
 use super::circular::{changes, NAMES};
-use super::orbit::{end, kind, size, x_of};
 use super::pairs::Asked;
 use crate::csv::line;
+use crate::orbit::{end, kind, size, x_of};
 use crate::refusal;
 use crate::wire::{Entry, Outcome, Question, Record};
 

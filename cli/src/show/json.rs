@@ -1,8 +1,8 @@
 //! A record as a JSON object on a line. Floats have the digits that read back to the same bits.
 
 use super::circular::{changes, NAMES};
-use super::orbit::{end, kind, size, x_of};
 use super::pairs::Asked;
+use crate::orbit::{end, kind, size, x_of};
 use crate::refusal;
 use crate::wire::{Entry, Outcome, Question, Record};
 

@@ -2,27 +2,34 @@
 //! third where its question is at hand.
 
 use super::circular::changes;
-use super::orbit::{end, kind, size, x_of};
 use super::pairs::Asked;
+use crate::orbit::{end, kind, size, x_of};
 use crate::refusal;
-use crate::wire::{Entry, Outcome, Question, Record};
+use crate::wire::{Entry, Outcome, Record};
+use crate::words;
 
 pub const HEAD: &str = "       job   rev  transfer  orbit      x of chosen end  end    width k    width x  \
     km/s          x            y            z         size\n";
 
-/// The longest line of words.
+/// The longest line of words, and what stands before the lines that go on.
 const WIDTH: usize = 118;
+const INDENT: &str = "          ";
 
 pub fn record(record: &Record, asked: &Asked) -> String {
     let mut lines = Vec::new();
     match asked {
         Asked::Unknown => {}
         Asked::NoQuestion => lines.push("asked     the slot is no question".into()),
-        Asked::Known(question) => lines.extend(asked_lines(question)),
+        Asked::Known(question) => {
+            let asked = words::asked(question);
+            lines.push(format!("asked     {},", asked[..3].join(", ")));
+            lines.push(format!("{INDENT}{}", asked[3..].join(", ")));
+        }
     }
     match &record.outcome {
         Outcome::Refused(number) => {
-            lines.extend(wrapped(&format!("refused {number}: {}", refusal::words(*number))));
+            let told = format!("refused {number}: {}", refusal::words(*number));
+            lines.extend(words::wrapped(&told, WIDTH, INDENT));
         }
         Outcome::Answered(entries) => {
             for (i, entry) in entries.iter().enumerate() {
@@ -72,47 +79,7 @@ fn speed(part: f64, size: f64) -> String {
 fn changes_line(changes: [f64; 2]) -> String {
     let [from, to] = changes.map(|change| speed(change, change));
     let orbits = "Δv from / to a circular orbit in the transfer's plane and sense";
-    format!("          {orbits}: {from} km/s at r1, {to} km/s at r2")
-}
-
-fn asked_lines(question: &Question) -> Vec<String> {
-    let list = |r: [f64; 3]| r.map(number).join(", ");
-    let Question { r1, r2, mu, time, revolutions, .. } = question;
-    let s = if *revolutions == 1 { "" } else { "s" };
-    vec![
-        format!("asked     r1 ({}) km, r2 ({}) km, mu {} km^3/s^2,", list(*r1), list(*r2), number(*mu)),
-        format!(
-            "          time {} s, {revolutions} whole revolution{s}, {} way",
-            number(*time),
-            question.way()
-        ),
-    ]
-}
-
-/// A number as short as it can be read back, with an exponent where it is very large or very small.
-fn number(value: f64) -> String {
-    if value == 0.0 || (1e-5..1e15).contains(&value.abs()) {
-        format!("{value}")
-    } else {
-        format!("{value:e}")
-    }
-}
-
-/// Words in lines of a width, broken at spaces; the lines after the first stand under the first word's end.
-fn wrapped(words: &str) -> Vec<String> {
-    let mut lines = vec![String::new()];
-    for word in words.split(' ') {
-        let last = lines.last_mut().expect("there is a first line");
-        if last.is_empty() {
-            *last = word.into();
-        } else if last.len() + 1 + word.len() <= WIDTH {
-            *last += " ";
-            *last += word;
-        } else {
-            lines.push(format!("          {word}"));
-        }
-    }
-    lines
+    format!("{INDENT}{orbits}: {from} km/s at r1, {to} km/s at r2")
 }
 
 #[cfg(test)]
@@ -127,12 +94,6 @@ mod tests {
             let words: Vec<&str> = text.split_whitespace().skip(2).collect();
             assert_eq!(words.join(" "), format!("refused {number}: {}", refusal::words(number)));
         }
-    }
-
-    #[test]
-    fn numbers_are_short() {
-        assert_eq!([0.0, 7000.0, 0.1, 1e300, 2e-9].map(number), ["0", "7000", "0.1", "1e300", "2e-9"]);
-        assert_eq!(number(f64::NAN), "NaN");
     }
 
     #[test]
