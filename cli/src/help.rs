@@ -6,6 +6,7 @@ lambert-cli: ask, solve and read Lambert questions with the proved solver
   lambert-cli ask ...        a question from words, or many from a CSV file, to bytes
   lambert-cli solve ...      questions to records, on every core
   lambert-cli show ...       records as a table, as JSON or as CSV
+  lambert-cli plot ...       one question as a picture: the time over x and the brackets
   lambert-cli check ...      is a file of records or questions well-formed, and if not, where
   lambert-cli COMMAND --help
 
@@ -43,6 +44,21 @@ refusal its number and what that means.
                      r2, both in the transfer's plane and sense (dv1_circular, dv2_circular)
   --json             an object for each record, one a line
   --csv              a line for each transfer or refusal, after a header
+";
+
+pub const PLOT: &str = "\
+lambert-cli plot [--job N | --slot N] [QUESTIONS] [-o OUT.svg]
+
+Draws one question as an SVG: the normalised time at every station over x, the wanted time,
+stations without a time, each bracket with its chosen end (x, which end, the halvings h), and where
+the question was refused the number and what it means. A question that the entrance refuses
+(numbers 2 to 10) has no curve; a slot that is no question (number 1) is an error. Both axes are
+chosen so that the crossings can be seen: x is linear, T is logarithmic.
+
+  --job N    the question with this job number
+  --slot N   the question in this slot of the file, counted from 1
+             (a file with a single question needs neither)
+  -o OUT     the file to write (default: standard output)
 ";
 
 pub const ASK: &str = "\

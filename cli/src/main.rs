@@ -7,6 +7,7 @@ mod csv;
 mod help;
 mod options;
 mod orbit;
+mod plot;
 #[allow(unsafe_code)]
 mod proved;
 mod refusal;
@@ -23,10 +24,11 @@ use stop::Stop;
 /// A command's name, its help and what runs it.
 type Command = (&'static str, &'static str, fn(&[String]) -> Result<u8, Stop>);
 
-const COMMANDS: [Command; 4] = [
+const COMMANDS: [Command; 5] = [
     ("ask", help::ASK, ask::run),
     ("solve", help::SOLVE, solve::run),
     ("show", help::SHOW, show::run),
+    ("plot", help::PLOT, plot::run),
     ("check", help::CHECK, check::run),
 ];
 

@@ -4,7 +4,7 @@ pub mod question;
 pub mod record;
 
 pub use question::{Question, Slots, SLOT};
-pub use record::{Entry, Outcome, Record, Records};
+pub use record::{Entry, Outcome, Record, Records, ROOM};
 
 /// A number at a place of some bytes that are known to be long enough.
 macro_rules! number_at {

@@ -1,4 +1,4 @@
-use super::respond;
+use super::{respond, stations, time, wanted};
 use crate::wire::SLOT;
 
 const REFUSED_1: [u8; 16] = [12, 0, 0, 0, 3, 0, 0, 0, 0, 0, 0, 0, 0, 0, 1, 0];
@@ -16,6 +16,28 @@ fn takes_any_length() {
     for length in [0, 1, 81, 83, 164, 492] {
         assert_eq!(respond(&samples[..length]), REFUSED_1, "{length} bytes");
     }
+}
+
+#[test]
+fn gives_the_grid_of_each_question() {
+    let samples = include_bytes!("../../../samples/questions");
+    for (slot, count, last) in [(0, 8_191, 4_095 << 20), (1, 20_480, 1 << 34), (3, 8_191, 4_095 << 20)] {
+        let places = stations(&samples[slot * SLOT..][..SLOT]);
+        assert_eq!((places.len(), places[0], places.last()), (count, -4_095 << 20, Some(&last)));
+        assert!(places.windows(2).all(|pair| pair[1] - pair[0] == 1 << 20));
+    }
+    assert!(stations(&samples[5 * SLOT..]).is_empty() && stations(&samples[..81]).is_empty());
+}
+
+#[test]
+fn gives_the_worked_times() {
+    let worked = &include_bytes!("../../../samples/questions")[..SLOT];
+    assert!((f64::from_bits(wanted(worked)) - 0.634).abs() < 1e-3);
+    assert!(f64::from_bits(time(worked, 0)) > std::f64::consts::PI);
+    for k in [i64::MIN, -1 << 32, 1 << 32, i64::MAX] {
+        assert_eq!(time(worked, k), u64::MAX, "k = {k}");
+    }
+    assert_eq!((wanted(&worked[..81]), time(&[], 0)), (u64::MAX, u64::MAX));
 }
 
 /// Run by `cli/test`, which names a file of questions and the file of records that `lambert` gave.

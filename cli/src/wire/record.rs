@@ -5,6 +5,8 @@ use std::io::{self, Read};
 
 const HEAD: usize = 16;
 const ENTRY: usize = 64;
+/// The room that a record may need: an answer has at most eight entries.
+pub const ROOM: usize = HEAD + 8 * ENTRY;
 /// Stations stand 2^20 apart, from -2^32 + 2^20 to 2^34.
 const STATION: i64 = 1 << 20;
 const FIRST: i64 = STATION - (1 << 32);
@@ -118,7 +120,7 @@ impl<R: Read> Records<R> {
 
     /// The next record; none at the end of the input.
     pub fn next(&mut self) -> io::Result<Result<Option<Record>, Fault>> {
-        let mut bytes = [0; HEAD + 8 * ENTRY];
+        let mut bytes = [0; ROOM];
         let had = read_full(&mut self.input, &mut bytes[..HEAD])?;
         if had == 0 {
             return Ok(Ok(None));

@@ -1,0 +1,41 @@
+//! `plot`: one question as an SVG. What is drawn comes from the proved library, place by place.
+
+mod axes;
+mod choice;
+mod curve;
+mod graph;
+mod page;
+mod svg;
+mod ticks;
+mod trace;
+
+use crate::options::Options;
+use crate::proved::respond;
+use crate::stop::Stop;
+use crate::streams::{Input, Output};
+use crate::wire::{Record, Records};
+use choice::Choice;
+use curve::Curve;
+
+/// Runs the command. The output is opened once there is something to write.
+pub fn run(words: &[String]) -> Result<u8, Stop> {
+    let options = Options::read(words, &[], &["--job", "--slot", "-o"])?;
+    let choice = Choice::read(&options)?;
+    let mut input = Input::open(options.file()?)?;
+    let question = choice.question(&mut input)?;
+    let slot = question.bytes();
+    let record = record(&slot)?;
+    let curve = Curve::of(&slot, &record.outcome);
+    let picture = page::page(&question, &record.outcome, curve.as_ref());
+    let mut output = Output::open(options.value("-o"), Some(&input))?;
+    output.put(picture.as_bytes())?;
+    output.flush()?;
+    Ok(0)
+}
+
+fn record(slot: &[u8]) -> Result<Record, Stop> {
+    match Records::new(&respond(slot)[..]).next() {
+        Ok(Ok(Some(record))) => Ok(record),
+        _ => Stop::said("the solver's record cannot be read"),
+    }
+}

@@ -1,0 +1,87 @@
+//! Which question of a file is drawn.
+
+use crate::check::located;
+use crate::options::Options;
+use crate::stop::Stop;
+use crate::streams::Input;
+use crate::wire::{Fault, Question, Slots};
+use std::io::{BufReader, Read};
+
+#[derive(Debug, PartialEq)]
+pub enum Choice {
+    /// The file has no other.
+    Only,
+    Job(u32),
+    /// Counted from 1.
+    Slot(u64),
+}
+
+impl Choice {
+    pub fn read(options: &Options) -> Result<Choice, Stop> {
+        match (options.value("--job"), options.value("--slot")) {
+            (None, None) => Ok(Choice::Only),
+            (Some(_), Some(_)) => Stop::said("--job and --slot do not go together"),
+            (Some(job), None) => match job.parse() {
+                Ok(job @ 1..) => Ok(Choice::Job(job)),
+                _ => Stop::said("--job takes a whole number from 1 to 4294967295"),
+            },
+            (None, Some(slot)) => match slot.parse() {
+                Ok(slot @ 1..) => Ok(Choice::Slot(slot)),
+                _ => Stop::said("--slot takes a whole number from 1"),
+            },
+        }
+    }
+
+    /// The chosen question of an input. A slot that is none is told as `check` tells it.
+    pub fn question(&self, input: &mut Input) -> Result<Question, Stop> {
+        let slots = &mut Slots::new(BufReader::new(&mut input.bytes));
+        let name = &input.name;
+        let Some(slot) = self.slot(slots, name)? else {
+            return Stop::said(format!("{name}: {}", self.missing(slots.number)));
+        };
+        // Where it is no question it was read last: a job is found in questions alone.
+        let fault = |(at, words)| Fault { offset: slots.offset() + at as u64, number: slots.number, words };
+        Question::read(&slot).map_err(|wrong| located(name, "slot", &fault(wrong)))
+    }
+
+    /// The chosen slot. Where another could be meant too, neither is taken.
+    fn slot(&self, slots: &mut Slots<impl Read>, name: &str) -> Result<Option<Vec<u8>>, Stop> {
+        let mut found: Option<(u64, Vec<u8>)> = None;
+        while let Some(slot) = slots.next().map_err(|e| Stop::reading(name, &e))? {
+            if !self.means(slots.number, &slot) {
+                continue;
+            }
+            if let Some((first, _)) = found {
+                return Stop::said(format!("{name}: {}", self.several(first, slots.number)));
+            }
+            found = Some((slots.number, slot));
+            if matches!(self, Choice::Slot(_)) {
+                break;
+            }
+        }
+        Ok(found.map(|(_, slot)| slot))
+    }
+
+    fn means(&self, number: u64, slot: &[u8]) -> bool {
+        match self {
+            Choice::Only => true,
+            Choice::Job(job) => Question::read(slot).is_ok_and(|question| question.job == *job),
+            Choice::Slot(wanted) => *wanted == number,
+        }
+    }
+
+    fn several(&self, first: u64, second: u64) -> String {
+        match self {
+            Choice::Job(job) => format!("job {job} stands in slots {first} and {second}: choose by --slot"),
+            _ => "has more than one slot: choose by --job or --slot".into(),
+        }
+    }
+
+    fn missing(&self, slots: u64) -> String {
+        match self {
+            Choice::Only => "has no question".into(),
+            Choice::Job(job) => format!("none of {slots} slots has a question of job {job}"),
+            Choice::Slot(number) => format!("there is no slot {number}, the file has {slots}"),
+        }
+    }
+}

@@ -1,0 +1,69 @@
+//! What the proved library says of a question: the wanted time, and the times at its stations and chosen ends.
+
+use crate::orbit::x_of;
+use crate::proved;
+use crate::wire::Outcome;
+
+/// A place: x, and the time where the place has one.
+pub type Place = (f64, Option<f64>);
+
+pub struct Curve {
+    pub wanted: f64,
+    pub stations: Vec<Place>,
+    /// The chosen end of each entry.
+    pub chosen: Vec<Place>,
+}
+
+impl Curve {
+    /// The curve of a question's bytes; none where it does not pass the entrance checks.
+    pub fn of(question: &[u8], outcome: &Outcome) -> Option<Curve> {
+        let place = |k: i64| (x_of(k), known(proved::time(question, k)));
+        let chosen = match outcome {
+            Outcome::Refused(_) => Vec::new(),
+            Outcome::Answered(entries) => entries.iter().map(|entry| place(entry.chosen())).collect(),
+        };
+        let stations = proved::stations(question).into_iter().map(place).collect();
+        Some(Curve { wanted: known(proved::wanted(question))?, stations, chosen })
+    }
+
+    /// How many stations are void.
+    pub fn void(&self) -> usize {
+        self.stations.iter().filter(|(_, time)| time.is_none()).count()
+    }
+}
+
+/// All ones, a pattern that no time has, stand for none.
+fn known(bits: u64) -> Option<f64> {
+    Some(bits).filter(|bits| *bits != u64::MAX).map(f64::from_bits)
+}
+
+#[cfg(test)]
+mod tests {
+    use super::*;
+    use crate::plot::record;
+    use crate::wire::SLOT;
+
+    #[test]
+    fn the_curve_crosses_where_the_record_says() {
+        for slot in include_bytes!("../../../samples/questions").chunks(SLOT).take(5) {
+            let outcome = record(slot).ok().expect("a record").outcome;
+            let curve = Curve::of(slot, &outcome).expect("past the entrance");
+            let below = |place: &Place| place.1.map(|time| time < curve.wanted);
+            let crosses = |pair: &&[Place]| below(&pair[0]).is_some() && below(&pair[0]) != below(&pair[1]);
+            let crossings: Vec<&[Place]> = curve.stations.windows(2).filter(crosses).collect();
+            assert_eq!((crossings.len(), curve.void()), (curve.chosen.len(), 0));
+            for (pair, (x, time)) in crossings.iter().zip(&curve.chosen) {
+                assert!(pair[0].0 <= *x && *x <= pair[1].0);
+                assert!((time.expect("a time") / curve.wanted - 1.0).abs() < 1e-6);
+            }
+        }
+    }
+
+    #[test]
+    fn a_refusal_at_the_entrance_has_no_curve() {
+        let samples = include_bytes!("../../../samples/questions");
+        for slot in [&samples[5 * SLOT..], &samples[..81], &[]] {
+            assert!(Curve::of(slot, &Outcome::Refused(1)).is_none());
+        }
+    }
+}

@@ -1,0 +1,42 @@
+//! Pieces of SVG. Attributes are ours; words are escaped.
+
+pub const DARK: &str = "#1a1a1a";
+pub const GREY: &str = "#555555";
+
+/// Characters that markup means something by.
+pub fn escaped(words: &str) -> String {
+    words.replace('&', "&amp;").replace('<', "&lt;").replace('>', "&gt;").replace('"', "&quot;")
+}
+
+/// Words that begin at a point; `more` has other attributes.
+pub fn text(x: f64, y: f64, more: &str, words: &str) -> String {
+    format!("<text x=\"{x:.1}\" y=\"{y:.1}\"{}>{}</text>\n", spaced(more), escaped(words))
+}
+
+pub fn line([x1, y1, x2, y2]: [f64; 4], more: &str) -> String {
+    format!("<line x1=\"{x1:.2}\" y1=\"{y1:.2}\" x2=\"{x2:.2}\" y2=\"{y2:.2}\"{}/>\n", spaced(more))
+}
+
+pub fn rect([x, y, width, height]: [f64; 4], more: &str) -> String {
+    let size = format!("width=\"{width:.2}\" height=\"{height:.2}\"");
+    format!("<rect x=\"{x:.2}\" y=\"{y:.2}\" {size}{}/>\n", spaced(more))
+}
+
+/// Something of which only what is within a frame is seen.
+pub fn within([x, y, width, height]: [f64; 4], drawn: &str) -> String {
+    let size = format!("x=\"{x}\" y=\"{y}\" width=\"{width}\" height=\"{height}\"");
+    format!("<svg {size} viewBox=\"{x} {y} {width} {height}\">\n{drawn}</svg>\n")
+}
+
+pub fn circle(x: f64, y: f64) -> String {
+    let style = format!("fill=\"white\" stroke=\"{DARK}\" stroke-width=\"2\"");
+    format!("<circle cx=\"{x:.2}\" cy=\"{y:.2}\" r=\"4.5\" {style}/>\n")
+}
+
+fn spaced(attributes: &str) -> String {
+    if attributes.is_empty() {
+        String::new()
+    } else {
+        format!(" {attributes}")
+    }
+}

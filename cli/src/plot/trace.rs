@@ -1,0 +1,65 @@
+//! The curve in few points. Of the stations in one column of the picture the first, the least, the greatest and
+//! the last are kept, so that a curve on both sides of the wanted time stays on both. A column with a void station
+//! is marked.
+
+use super::axes::Axes;
+use super::curve::Place;
+
+/// The width of a column.
+const COLUMN: f64 = 1.0;
+
+pub struct Trace {
+    /// The data of an SVG path, which breaks at void stations.
+    pub path: String,
+    /// From where to where there are void stations.
+    pub voids: Vec<(f64, f64)>,
+}
+
+type Point = (f64, f64);
+
+pub fn trace(stations: &[Place], axes: &Axes) -> Trace {
+    let mut trace = Trace { path: String::new(), voids: Vec::new() };
+    let mut joined = false;
+    for places in stations.chunk_by(|a, b| column(a.0, axes) == column(b.0, axes)) {
+        if places.iter().any(|(_, time)| time.is_none()) {
+            mark(&mut trace.voids, column(places[0].0, axes));
+        }
+        let timed = |place: &Place| Some((axes.across(place.0), axes.down(place.1?)));
+        let points = kept(&places.iter().filter_map(timed).collect::<Vec<_>>());
+        joined &= places[0].1.is_some();
+        for (x, y) in points {
+            // A part begins with a line of no length, so that a station alone is a dot.
+            let begin = if joined { String::new() } else { format!("M{x:.2} {y:.2}") };
+            trace.path += &format!("{begin} {x:.2} {y:.2}");
+            joined = true;
+        }
+        joined = places[places.len() - 1].1.is_some();
+    }
+    trace
+}
+
+fn column(x: f64, axes: &Axes) -> f64 {
+    (axes.across(x) / COLUMN).floor() * COLUMN
+}
+
+/// Lengthens the last stretch by the column that follows it, or begins another.
+fn mark(stretches: &mut Vec<(f64, f64)>, column: f64) {
+    match stretches.last_mut() {
+        Some((_, end)) if *end == column => *end += COLUMN,
+        _ => stretches.push((column, column + COLUMN)),
+    }
+}
+
+/// The first, the highest, the lowest and the last of some points, in their order and each once.
+fn kept(points: &[Point]) -> Vec<Point> {
+    let by_height = |a: &usize, b: &usize| points[*a].1.total_cmp(&points[*b].1);
+    let all = 0..points.len();
+    let ends = [all.clone().next(), all.clone().min_by(by_height), all.clone().max_by(by_height), all.last()];
+    let mut places: Vec<usize> = ends.into_iter().flatten().collect();
+    places.sort_unstable();
+    places.dedup();
+    places.into_iter().map(|i| points[i]).collect()
+}
+
+#[cfg(test)]
+mod tests;
