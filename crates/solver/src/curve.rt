@@ -6,12 +6,18 @@ ghost use Rattle.bisection.specs.Stations.{stationOf};
 ghost use Rattle.solver.specs.Curve.{wantedBits, stationCount, timeBits};
 use entrance::Judged;
 
+// The room that a question is judged with: that of the longest answer.
+const ROOM: usize = 528;
+
+// What is told where there is no time.
+const NO_TIME: u64 = 0xFFFF_FFFF_FFFF_FFFF;
+
 #[no_mangle]
 pub extern "C" fn lambert_wanted(question: &[u8]) -> u64
     ensures { λ r. ⌜ r ≡ wantedBits (now (question .entry)) ⌝ }
 {
-    match entrance::judge(question, 528) {
-        Judged::Refused(_) => 0xFFFF_FFFF_FFFF_FFFF,
+    match entrance::judge(question, ROOM) {
+        Judged::Refused(_) => NO_TIME,
         Judged::Accepted(problem) => float64::to_bits(problem.wanted),
     }
 }
@@ -21,7 +27,7 @@ pub extern "C" fn lambert_wanted(question: &[u8]) -> u64
 pub extern "C" fn lambert_stations(question: &[u8]) -> u64
     ensures { λ r. ⌜ r ≡ stationCount (now (question .entry)) ⌝ }
 {
-    match entrance::judge(question, 528) {
+    match entrance::judge(question, ROOM) {
         Judged::Refused(_) => 0,
         Judged::Accepted(problem) => bisection::last_station(problem.revolutions) as u64 + 1,
     }
@@ -40,8 +46,8 @@ pub extern "C" fn lambert_station(i: u16) -> i64
 pub extern "C" fn lambert_time(question: &[u8], k: i64) -> u64
     ensures { λ r. ⌜ r ≡ timeBits (now (question .entry)) k ⌝ }
 {
-    match entrance::judge(question, 528) {
-        Judged::Refused(_) => 0xFFFF_FFFF_FFFF_FFFF,
+    match entrance::judge(question, ROOM) {
+        Judged::Refused(_) => NO_TIME,
         Judged::Accepted(problem) => flight_time::place_bits(entries::place_at(problem, k)),
     }
 }
