@@ -2,12 +2,14 @@
 //! with the proved crates: where the two agree bit for bit, they agree for different reasons.
 
 pub mod angle;
+pub mod board;
 pub mod compare;
 pub mod entrance;
 pub mod fixed;
 pub mod flights;
 pub mod kepler;
 pub mod landing;
+pub mod message;
 pub mod places;
 pub mod precise;
 pub mod precision;

@@ -12,7 +12,7 @@ pub const REFUSED_KIND: u16 = 3;
 /// doesn't count its own four.
 pub const HEAD: usize = 16;
 pub const ENTRY: usize = 64;
-const LENGTH_SIZE: usize = 4;
+pub const LENGTH_SIZE: usize = 4;
 
 /// The fields of a record.
 #[derive(Clone, Debug, PartialEq)]
