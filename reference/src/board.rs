@@ -105,9 +105,14 @@ impl Board {
 
     /// The slots in rising job number, the free ones all zeros and last.
     pub fn write(&self) -> Vec<u8> {
-        let mut bytes = self.0.values().map(Held::slot).collect::<Vec<_>>().concat();
+        let mut bytes = self.held().map(Held::slot).collect::<Vec<_>>().concat();
         bytes.resize(SIZE, 0);
         bytes
+    }
+
+    /// What is held, in rising job number.
+    pub fn held(&self) -> impl Iterator<Item = &Held> {
+        self.0.values()
     }
 
     /// Takes a message; a refusal changes nothing.

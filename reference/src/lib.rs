@@ -1,8 +1,9 @@
-//! The independent second program. It is written from the scope document alone and shares no code
+//! The independent second program. It is written from the scope documents alone and shares no code
 //! with the proved crates: where the two agree bit for bit, they agree for different reasons.
 
 pub mod angle;
 pub mod board;
+pub mod boards;
 pub mod compare;
 pub mod entrance;
 pub mod fixed;

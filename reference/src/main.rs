@@ -1,7 +1,7 @@
 //! The commands of the independent second program. Each writes to standard output.
 
 use reference::{
-    compare, entrance, flights, landing, places, precision, questions, record, root, solver, sweeps,
+    boards, compare, entrance, flights, landing, places, precision, questions, record, root, solver, sweeps,
 };
 use std::io::{BufWriter, Read, Write};
 use std::process::ExitCode;
@@ -11,7 +11,8 @@ const USAGE: &str =
        time precision | velocity flights | velocity velocities | sweep cases | sweep crossings |
        solve | solver questions | solver answers | solver random N SEED |
        solver missions N SEED | solver tally ANSWERS |
-       solver differ QUESTIONS ANSWERS ANSWERS | solver landing QUESTIONS ANSWERS
+       solver differ QUESTIONS ANSWERS ANSWERS | solver landing QUESTIONS ANSWERS |
+       board frames | board lines | board random N SEED | board told | board records | board board
   root                 a line for each operand: its bits and the bits of its root, as hexadecimal digits
   entrance questions   a frame for each case: size and room, u16 little-endian, then the question's
                        bytes with zeros up to 120
@@ -32,7 +33,16 @@ const USAGE: &str =
   solver missions      N slots of fresh questions as missions ask them
   solver tally         how many records a file holds: answers by entries, refusals by number
   solver differ        the first slot for which two files of records differ; fails if there is one
-  solver landing       by how much the flights of a file of records miss the questions' positions";
+  solver landing       by how much the flights of a file of records miss the questions' positions
+  board frames         lists of records to post to a board; commands u16, little-endian: up to 1024 the size
+                       of a record that follows; FFFD and a size u32 that is lent as the board; FFFE, a
+                       place u32 and a value u8 that is written there; FFFF the end of a list
+  board lines          a line for each list: T or the digit of its refusal for each record, then the hash of
+                       the board
+  board random         the frames of N fresh lists, each in several orders
+  board told           the lines of the frames on standard input
+  board records        one stream of records, each by its length
+  board board          the board's bytes after that stream";
 
 fn main() -> ExitCode {
     let words: Vec<String> = std::env::args().skip(1).collect();
@@ -56,6 +66,12 @@ fn main() -> ExitCode {
         ["solver", "tally", answers] => write_tally(&mut out, answers),
         ["solver", "differ", asked, first, second] => write_difference(&mut out, asked, [first, second]),
         ["solver", "landing", asked, answers] => write_landing(&mut out, asked, answers),
+        ["board", "frames"] => out.write_all(&boards::frames()),
+        ["board", "lines"] => out.write_all(boards::lines().as_bytes()),
+        ["board", "random", n, seed] => write_fresh(&mut out, boards::random, n, seed),
+        ["board", "told"] => write_told(&mut out),
+        ["board", "records"] => out.write_all(&boards::records()),
+        ["board", "board"] => out.write_all(&boards::board()),
         _ => {
             eprintln!("{USAGE}");
             return ExitCode::from(2);
@@ -113,12 +129,22 @@ fn write_crossings(out: &mut impl Write) -> std::io::Result<()> {
 }
 
 fn write_replies(out: &mut impl Write) -> std::io::Result<()> {
-    let mut input = Vec::new();
-    std::io::stdin().read_to_end(&mut input)?;
-    for reply in record::replies(&input) {
+    for reply in record::replies(&input()?) {
         out.write_all(&reply)?;
     }
     Ok(())
+}
+
+fn write_told(out: &mut impl Write) -> std::io::Result<()> {
+    let told = boards::told(&input()?).ok_or(std::io::Error::other("the frames are cut or unknown"))?;
+    out.write_all(told.as_bytes())
+}
+
+/// All of standard input.
+fn input() -> std::io::Result<Vec<u8>> {
+    let mut bytes = Vec::new();
+    std::io::stdin().read_to_end(&mut bytes)?;
+    Ok(bytes)
 }
 
 fn write_fresh<S: AsRef<[u8]>, I: Iterator<Item = S>>(

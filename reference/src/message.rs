@@ -8,7 +8,9 @@ use crate::wire::part;
 pub const MOST_ENTRIES: usize = 8;
 pub const LAST_NUMBER: u16 = 14;
 
-/// Where an entry's chosen end stands, a u32: 0 for the lower, 1 for the upper.
+/// Where an answer's number of entries stands, or a refusal's number; and in an entry the chosen end, a
+/// u32: 0 for the lower, 1 for the upper.
+pub const COUNT: usize = 14;
 pub const CHOSEN: usize = 12;
 
 #[derive(Clone, Debug, PartialEq, Eq)]

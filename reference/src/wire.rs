@@ -92,6 +92,13 @@ pub fn put(bytes: &mut [u8], at: usize, field: &[u8]) {
     bytes[at..at + field.len()].copy_from_slice(field);
 }
 
+/// The bytes with `field` written over those from `at` on.
+pub fn with(bytes: &[u8], at: usize, field: &[u8]) -> Vec<u8> {
+    let mut other = bytes.to_vec();
+    put(&mut other, at, field);
+    other
+}
+
 /// Writes `bits` over the float number `i` of the eight.
 pub fn put_float(bytes: &mut [u8], i: usize, bits: u64) {
     put(bytes, FLOATS + 8 * i, &bits.to_le_bytes());

@@ -1,8 +1,6 @@
 use super::*;
 use crate::solve::Entry;
-use crate::wire::{put, KIND, LENGTH};
-
-const COUNT: usize = 14;
+use crate::wire::{with, KIND, LENGTH};
 
 fn refusal(number: u16) -> Vec<u8> {
     Record { job: 7, revision: 2, outcome: Err(number) }.write()
@@ -15,12 +13,6 @@ fn answer(n: usize) -> Vec<u8> {
 
 fn sound(bytes: &[u8]) -> bool {
     Message::read(bytes).is_some()
-}
-
-/// The bytes with `field` written over those from `at` on.
-fn with(mut bytes: Vec<u8>, at: usize, field: &[u8]) -> Vec<u8> {
-    put(&mut bytes, at, field);
-    bytes
 }
 
 #[test]
@@ -47,14 +39,14 @@ fn entries_in_force() {
 #[test]
 fn the_count_is_the_size_s_own() {
     for n in (0..=u16::MAX).filter(|&n| n != 3) {
-        assert!(!sound(&with(answer(3), COUNT, &n.to_le_bytes())), "{n}");
+        assert!(!sound(&with(&answer(3), COUNT, &n.to_le_bytes())), "{n}");
     }
 }
 
 #[test]
 fn only_two_kinds() {
     for kind in 0..=u16::MAX {
-        let sort = |bytes| sound(&with(bytes, KIND, &kind.to_le_bytes()));
+        let sort = |bytes: Vec<u8>| sound(&with(&bytes, KIND, &kind.to_le_bytes()));
         assert_eq!([sort(answer(2)), sort(refusal(2))], [kind == 2, kind == 3], "{kind}");
     }
 }
@@ -64,7 +56,7 @@ fn only_one_length() {
     for bytes in [refusal(1), answer(1), answer(8)] {
         let own = bytes.len() as u32 - 4;
         for length in (0..700).chain([u32::MAX, u32::MAX - 3, own << 8, own << 16 | own]) {
-            let found = sound(&with(bytes.clone(), LENGTH, &length.to_le_bytes()));
+            let found = sound(&with(&bytes, LENGTH, &length.to_le_bytes()));
             assert_eq!(found, length == own, "{length} for {own}");
         }
     }
@@ -79,7 +71,7 @@ fn only_one_size() {
             other.resize(size, 0);
             assert!(!sound(&other), "{size}");
             if size >= 4 {
-                assert!(!sound(&with(other, LENGTH, &(size as u32 - 4).to_le_bytes())), "{size}");
+                assert!(!sound(&with(&other, LENGTH, &(size as u32 - 4).to_le_bytes())), "{size}");
             }
         }
     }
@@ -88,7 +80,7 @@ fn only_one_size() {
 #[test]
 fn a_chosen_end_is_0_or_1_in_every_entry() {
     for i in 0..8 {
-        let end = |chosen: u32| sound(&with(answer(8), HEAD + ENTRY * i + CHOSEN, &chosen.to_le_bytes()));
+        let end = |chosen: u32| sound(&with(&answer(8), HEAD + ENTRY * i + CHOSEN, &chosen.to_le_bytes()));
         assert!(end(0) && end(1));
         assert!(![2, 3, 256, 257, 1 << 16, 1 << 24, 1 << 31, u32::MAX].into_iter().any(end), "{i}");
     }
@@ -98,7 +90,7 @@ fn a_chosen_end_is_0_or_1_in_every_entry() {
 #[test]
 fn nothing_else_of_an_entry_is_judged() {
     for at in (0..ENTRY).filter(|at| !(CHOSEN..CHOSEN + 4).contains(at)) {
-        assert!(sound(&with(answer(2), HEAD + at, &[0xFF])), "{at}");
+        assert!(sound(&with(&answer(2), HEAD + at, &[0xFF])), "{at}");
     }
 }
 

@@ -1,0 +1,104 @@
+//! The lists of messages on which the board is compared: a fixed number, and any number of fresh ones.
+
+mod damage;
+mod malformed;
+mod meetings;
+mod messages;
+mod stage;
+mod steps;
+mod stream;
+
+use crate::board::SLOT;
+use crate::random::Random;
+use meetings::{crowd, few, orders};
+use messages::{answer, message, refusal};
+use steps::{List, Step, LONGEST};
+
+pub use steps::lines as told;
+pub use stream::{board, records};
+
+/// The steps of every list.
+pub fn frames() -> Vec<u8> {
+    lists().iter().flat_map(|list| framed(list)).collect()
+}
+
+/// What is told of every list, a line each.
+pub fn lines() -> String {
+    told(&frames()).expect("the frames are steps")
+}
+
+fn framed(list: &[Step]) -> Vec<u8> {
+    list.iter().flat_map(Step::frame).collect()
+}
+
+fn lists() -> Vec<List> {
+    let mut r = Random::new(20);
+    let mut all = vec![vec![Step::End]];
+    for i in 0..44 {
+        let faults = if i % 2 == 0 { None } else { Some(5) };
+        all.extend(posted(&few(faults, &mut r), &mut r));
+    }
+    for jobs in [60, 63, 64, 64, 65, 65, 66, 68, 69, 70, 70] {
+        let faults = if jobs % 2 == 0 { Some(12) } else { None };
+        all.extend(posted(&crowd(jobs, faults, &mut r), &mut r));
+    }
+    all.extend(faulty(&mut r));
+    all.extend((0..8).map(|_| damage::sizes(&mut r)));
+    all.extend((0..60).map(|_| damage::list(20, &mut r)));
+    all.extend([(1, SLOT), (3, 40), (4, 100)].map(|(jobs, width)| damage::every_byte(jobs, width, &mut r)));
+    all
+}
+
+/// The messages in each of their orders.
+fn posted(messages: &[Vec<u8>], r: &mut Random) -> Vec<List> {
+    orders(messages, r).map(listed).into()
+}
+
+fn listed(messages: Vec<Vec<u8>>) -> List {
+    messages.into_iter().map(Step::Post).chain([Step::End]).collect()
+}
+
+/// Every fault of refusals and of answers, and sizes from 0 to 600 and the largest, beside messages that
+/// are taken.
+fn faulty(r: &mut Random) -> Vec<List> {
+    let mut all = Vec::new();
+    for base in [refusal(5, 5, r), answer(5, 5, 1, r), answer(5, 5, 8, r)] {
+        let sound = [message(4, 5, r), base.clone()];
+        all.push([&sound[..], &malformed::faults(&base, r), &[malformed::nobody(&base)]].concat());
+    }
+    let whole = answer(5, 5, 8, r);
+    let telling = |size: &usize| *size < 24 || (14..18).contains(&(size % 64)) || size % 41 == 0;
+    let sizes: Vec<usize> = (0..600).filter(telling).chain([LONGEST - 1, LONGEST]).collect();
+    for sized in [malformed::resized, malformed::agreed] {
+        let cut = sizes.iter().map(|&size| sized(&whole, size, r));
+        all.push(cut.chain([whole.clone()]).collect());
+    }
+    all.into_iter().map(listed).collect()
+}
+
+/// Fresh messages, each of the `n` in several orders, and boards that are damaged.
+pub fn random(n: u64, seed: u64) -> impl Iterator<Item = Vec<u8>> {
+    let mut r = Random::new(seed);
+    (0..n).map(move |_| fresh(&mut r).iter().flat_map(|list| framed(list)).collect())
+}
+
+fn fresh(r: &mut Random) -> Vec<List> {
+    let faults = pick(&[None, Some(3), Some(12)], r);
+    match r.below(12) {
+        0 => {
+            let jobs = 60 + r.below(11) as usize;
+            posted(&crowd(jobs, faults, r), r)
+        }
+        1 => vec![damage::sizes(r)],
+        2 | 3 => vec![damage::list(20, r)],
+        _ => posted(&few(faults, r), r),
+    }
+}
+
+/// One of some things.
+fn pick<T: Clone>(all: &[T], r: &mut Random) -> T {
+    all[r.below(all.len() as u64) as usize].clone()
+}
+
+#[cfg(test)]
+mod tests;
