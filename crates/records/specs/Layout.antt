@@ -1,6 +1,6 @@
 -- The layout of the question, the refusal, the answer's head and its entries, once (01, Records on the wire): each field's offset and width in bytes. Definitions only.
 -- The code's tables of widths are tied to these by its contracts. `tiles` says that a table has no gap and no overlap.
-use Prim.Native.Nat.{ℕ, _+_}
+use Prim.Native.Nat.{ℕ, _+_, _*_}
 use mathlib.Core.Bool.{Bool, _&&_}
 use mathlib.Core.List.{List, [], _∷_, _++_}
 use lib.Dec.{eqb}
@@ -102,6 +102,23 @@ headFields = LENGTH ∷ KIND ∷ JOB ∷ REVISION ∷ LAST ∷ []
 
 unfoldable pub entryFields : List Field
 entryFields = LOWER ∷ HALVINGS ∷ CHOSEN ∷ V1X ∷ V1Y ∷ V1Z ∷ V2X ∷ V2Y ∷ V2Z ∷ []
+
+-- the sizes of the records in bytes, where their tables end (proofs/Tables.antt): the head, which is a refusal's all, and an entry
+abbrev pub HEAD_SIZE : ℕ
+HEAD_SIZE = 16
+
+abbrev pub ENTRY_SIZE : ℕ
+ENTRY_SIZE = 64
+
+-- an answer with n entries, and the longest one, with eight
+abbrev pub answerSize : ℕ → ℕ
+answerSize n = HEAD_SIZE + ENTRY_SIZE * n
+
+abbrev pub MOST_ENTRIES : ℕ
+MOST_ENTRIES = 8
+
+abbrev pub ANSWER_ROOM : ℕ
+ANSWER_ROOM = answerSize MOST_ENTRIES
 
 -- the number that a field of some bytes holds, and the bytes of a record whose fields hold some numbers
 abbrev pub valueOf : Field → List ℕ → ℕ

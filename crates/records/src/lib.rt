@@ -15,6 +15,15 @@ pub use heads::write_head;
 pub use questions::read_question;
 pub use questions::write_question;
 
+// The sizes of a refusal, which is an answer's head too, of an entry, and of the longest answer.
+pub const HEAD_SIZE: usize = 16;
+
+pub const ENTRY_SIZE: usize = 64;
+
+pub const MOST_ENTRIES: usize = 8;
+
+pub const ANSWER_ROOM: usize = HEAD_SIZE + ENTRY_SIZE * MOST_ENTRIES;
+
 // A question (kind 1).
 pub struct Question {
     pub length: u32,
