@@ -3,3 +3,4 @@ pub mod Twos
 mod Writing
 pub mod Tabled
 pub mod RoundTrip
+pub mod Cuts
