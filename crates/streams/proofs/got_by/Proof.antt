@@ -12,10 +12,10 @@ use borrow.Author.Tests.{ltb-true}
 use mir.Syntax.{w64}
 use mir.ValLaws.{toZ-ofZ}
 use Rattle.io.specs.Counts.{clamped}
-use Rattle.lambert.specs.Got.{gotOf}
-use Rattle.lambert.specs.declared.Got.the-variants.{Bytes, Failed}
-use Rattle.lambert.proofs.got_by.Statement.{statement}
-use Rattle.lambert.proofs.got_by.Tie as tie
+use Rattle.streams.specs.Got.{gotOf}
+use Rattle.streams.specs.declared.Got.the-variants.{Bytes, Failed}
+use Rattle.streams.proofs.got_by.Statement.{statement}
+use Rattle.streams.proofs.got_by.Tie as tie
 
 by-negative : (z : ℤ) (buffer : List ℕ) → ltZ z (pos 0) ≡ true → Failed ≡ gotOf z buffer
 by-negative (pos n) buffer e = absurd (omega (arith, ltb-true n 0 e))

@@ -1,27 +1,27 @@
--- `fill` meets its contract and ends: what was read lies within the slot, whose length stays, and the measure is the number of bytes that are left.
+-- `fill` meets its contract and ends: what was read lies within the buffer, whose length stays, and the measure is the number of bytes that are left.
 use borrow.Author.Needs.{needs}
 use borrow.Rule.Slice.PartMut.{mid-len, same-len-mid}
 use mathlib.Core.Path.{_≡_, _∙_, subst}
 use Prim.Native.Nat.{_+_, _≤_, _-_}
 use native.Mathlib.Omega.{arith}
 use lib.ListN.{length}
-use Rattle.lambert.specs.Got.{Within}
-use Rattle.lambert.proofs.fill.Statement.{statement}
-use Rattle.lambert.proofs.fill.Tie as tie
+use Rattle.streams.specs.Got.{Within}
+use Rattle.streams.proofs.fill.Statement.{statement}
+use Rattle.streams.proofs.fill.Tie as tie
 
 abbrev Inv-loop : tie.InvT-loop
-Inv-loop slot₀ done₀ slot done = (length slot ≡ length slot₀) × (done ≤ length slot)
+Inv-loop buffer₀ done₀ buffer done = (length buffer ≡ length buffer₀) × (done ≤ length buffer)
 
 abbrev μ-loop : tie.MeasureT-loop
-μ-loop slot₀ done₀ slot done = length slot - done
+μ-loop buffer₀ done₀ buffer done = length buffer - done
 
--- after a read that is not the last: what came lies within the part that was lent, and so within the slot
-goes-on : (c : tie.Else1 Inv-loop μ-loop) → c .before .before .before .before .before .before .before .before .before .loop .done + c .before .before .more .given .0 .0 ≤ length (c .before .before .before .before .before .before .before .before .before .loop .slot)
+-- after a read that is not the last: what came lies within the part that was lent, and so within the buffer
+goes-on : (c : tie.Else1 Inv-loop μ-loop) → c .before .before .before .before .before .before .before .before .before .loop .done + c .before .before .more .given .0 .0 ≤ length (c .before .before .before .before .before .before .before .before .before .loop .buffer)
 goes-on c =
     let d = c .before .before .before .before .before .before in
     let l = d .before .before .before .loop in
     let came : c .before .before .more .given .0 .0 ≤ length (d .read-some .last .0) = subst (Within (d .read-some .last .0)) (c .before .before .more .given .1) (d .read-some .ensures) in
-    omega (arith, came, d .read-some .kept .0, mid-len (l .done) (length (l .slot)) (l .slot) (omega arith), l .inv .1)
+    omega (arith, came, d .read-some .kept .0, mid-len (l .done) (length (l .buffer)) (l .buffer) (omega arith), l .inv .1)
 
 loop-holds : tie.Need-loop-holds Inv-loop μ-loop
 loop-holds c = search needs
@@ -66,7 +66,7 @@ loop-again : tie.Need-loop-again Inv-loop μ-loop
 loop-again c =
     let d = c .before .before .before .before .before .before in
     let l = d .before .before .before .loop in
-    let still = same-len-mid (l .done) (length (l .slot) - l .done) (l .slot) (d .read-some .last .0) (d .read-some .kept .0) in
+    let still = same-len-mid (l .done) (length (l .buffer) - l .done) (l .buffer) (d .read-some .last .0) (d .read-some .kept .0) in
     (still ∙ l .inv .0, omega (arith, still, goes-on c))
 
 same-length-3 : tie.Need-same-length-3 Inv-loop μ-loop

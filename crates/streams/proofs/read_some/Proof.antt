@@ -2,8 +2,8 @@
 use borrow.Author.Needs.{needs}
 use mathlib.Core.Path.{_≡_}
 use lib.ListN.{length}
-use Rattle.lambert.proofs.read_some.Statement.{statement}
-use Rattle.lambert.proofs.read_some.Tie as tie
+use Rattle.streams.proofs.read_some.Statement.{statement}
+use Rattle.streams.proofs.read_some.Tie as tie
 
 abbrev Inv-loop : tie.InvT-loop
 Inv-loop part₀ tries₀ answer₀ part tries answer = length part ≡ length part₀

@@ -3,8 +3,8 @@ use Prim.Native.Nat.{ℕ, _≤_, min}
 use mathlib.Core.List.{List}
 use lib.IntN.{ℤ, pos, negsuc}
 use lib.ListN.{length}
-use Rattle.lambert.specs.declared.Got.{Got}
-use Rattle.lambert.specs.declared.Got.the-variants.{Bytes, Failed}
+use Rattle.streams.specs.declared.Got.{Got}
+use Rattle.streams.specs.declared.Got.the-variants.{Bytes, Failed}
 
 -- what a read's answer says: a count, no larger than the buffer, or below 0 that the read failed
 abbrev pub gotOf : ℤ → List ℕ → Got
