@@ -1,0 +1,63 @@
+-- `name_ends` meets its contract. The loop's invariant: all says whether the first i entries name an end.
+-- The measure is how many entries are left.
+use Prim.Native.Nat.{_≤_, _-_}
+use mathlib.Core.Path.{_≡_, refl}
+use native.Mathlib.Numerals.{add-one}
+use native.Mathlib.Omega.{arith}
+use borrow.Author.Needs.{needs}
+use Rattle.outcomes.specs.Outcomes.{nameEnds}
+use Rattle.outcomes.proofs.name_ends.Statement.{statement}
+use Rattle.outcomes.proofs.name_ends.Tie as tie
+
+abbrev Inv-loop : tie.InvT-loop
+Inv-loop s n all₀ i₀ all i = (i ≤ n) × (all ≡ nameEnds i s)
+
+abbrev μ-loop : tie.MeasureT-loop
+μ-loop s n all₀ i₀ all i = n - i
+
+loop-holds : tie.Need-loop-holds Inv-loop μ-loop
+unfolding nameEnds
+loop-holds c = (omega arith, refl)
+
+mul-u32-at : tie.Need-mul-u32-at Inv-loop μ-loop
+mul-u32-at c = search needs
+
+add-u32-at : tie.Need-add-u32-at Inv-loop μ-loop
+add-u32-at c = search needs
+
+add-u32-at-2 : tie.Need-add-u32-at-2 Inv-loop μ-loop
+add-u32-at-2 c = search needs
+
+u32-at-requires : tie.Need-u32-at-requires Inv-loop μ-loop
+u32-at-requires c κs = search needs
+
+add-i : tie.Need-add-i Inv-loop μ-loop
+add-i c = search needs
+
+loop-less : tie.Need-loop-less Inv-loop μ-loop
+loop-less c = search needs
+
+loop-again : tie.Need-loop-again Inv-loop μ-loop
+unfolding nameEnds
+loop-again c = (omega arith, rw (add-one, c .u32-at .ensures, c .before .before .loop .inv .1))
+
+returns : tie.Need-returns Inv-loop μ-loop
+returns c =
+    let e : c .before .loop .i ≡ c .before .before .before .args .n = omega arith in
+    rw e at (c .before .loop .inv .1)
+
+pub name-ends-spec : {M : Type 1} → statement M
+name-ends-spec =
+    tie.close
+    (tie.spec
+    Inv-loop
+    μ-loop
+    loop-holds
+    mul-u32-at
+    add-u32-at
+    add-u32-at-2
+    u32-at-requires
+    add-i
+    loop-less
+    loop-again
+    returns)
