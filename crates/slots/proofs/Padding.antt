@@ -1,0 +1,59 @@
+-- Bytes with zeros after them, up to a size: how many they are and what stands in them; and a number in them, in a part and in a rest, which is read from its own bytes alone (`number-same`).
+use mathlib.Core.Path.{_≡_, refl, ap, _∙_}
+use mathlib.Core.List.{List, [], _∷_, _++_}
+use Prim.Native.Nat.{ℕ, zero, suc, _+_, _-_, _≤_, _<_}
+use native.Mathlib.Omega.{arith}
+use lib.ListN.{length, getD, take, drop, replicate, length-append, length-replicate}
+use lib.Seq.{take-append-add, getD-take, getD-drop, length-take-le}
+use Rattle.little_endian.specs.Bytes.{numberAt}
+use Rattle.slots.specs.Slots.{padded}
+
+pub padded-length : (n : ℕ) (c : List ℕ) → length (padded n c) ≡ n
+unfolding padded
+padded-length n c = length-take-le n (c ++ replicate n 0) (simp (length-append, length-replicate) (omega arith))
+
+-- past the end a byte counts as 0, so zeros after the bytes change none
+zeros-after : (c : List ℕ) (n i : ℕ) → getD (c ++ replicate n 0) i 0 ≡ getD c i 0
+zeros-after [] zero i = refl
+zeros-after [] (suc n) zero = refl
+zeros-after [] (suc n) (suc i) = zeros-after [] n i
+zeros-after (b ∷ c) n zero = refl
+zeros-after (b ∷ c) n (suc i) = zeros-after c n i
+
+pub padded-at : (n : ℕ) (c : List ℕ) (i : ℕ) → i < n → getD (padded n c) i 0 ≡ getD c i 0
+unfolding padded
+padded-at n c i h = getD-take n (c ++ replicate n 0) i 0 h ∙ zeros-after c n i
+
+take-zeros : (n m : ℕ) → n ≤ m → take {A = ℕ} n (replicate m 0) ≡ replicate n 0
+take-zeros zero m h = refl
+take-zeros (suc n) (suc m) h = ap (λ (l : List ℕ). 0 ∷ l) (take-zeros n m (omega arith))
+take-zeros (suc n) zero h = absurd (omega arith)
+
+pub padded-is : (n : ℕ) (c : List ℕ) → length c ≤ n → padded n c ≡ c ++ replicate (n - length c) 0
+unfolding padded
+padded-is n c h =
+    let e : n ≡ length c + (n - length c) = omega arith in
+    ap (λ (k : ℕ). take k (c ++ replicate n 0)) e ∙ take-append-add c (replicate n 0) (n - length c)
+    ∙ ap (λ (l : List ℕ). c ++ l) (take-zeros (n - length c) n (omega arith))
+
+-- ---- numbers
+
+pub number-same : (w at : ℕ) (s t : List ℕ) → ((i : ℕ) → at ≤ i → i < at + w → getD s i 0 ≡ getD t i 0) → numberAt w s at ≡ numberAt w t at
+unfolding numberAt
+number-same zero at s t h = refl
+number-same (suc w) at s t h =
+    let rest : numberAt w s (at + 1) ≡ numberAt w t (at + 1) = number-same w (at + 1) s t (λ (i : ℕ) l k. h i (omega arith) (omega arith)) in
+    rw (h at (omega arith) (omega arith), rest)
+
+pub number-padded : (w n at : ℕ) (c : List ℕ) → at + w ≤ n → numberAt w (padded n c) at ≡ numberAt w c at
+number-padded w n at c h = number-same w at (padded n c) c (λ (i : ℕ) l k. padded-at n c i (omega arith))
+
+pub number-take : (w n at : ℕ) (s : List ℕ) → at + w ≤ n → numberAt w (take n s) at ≡ numberAt w s at
+number-take w n at s h = number-same w at (take n s) s (λ (i : ℕ) l k. getD-take n s i 0 (omega arith))
+
+pub number-drop : (w n at : ℕ) (s : List ℕ) → numberAt w (drop n s) at ≡ numberAt w s (n + at)
+unfolding numberAt
+number-drop zero n at s = refl
+number-drop (suc w) n at s =
+    let e : n + (at + 1) ≡ n + at + 1 = omega arith in
+    rw (getD-drop n s at 0, number-drop w n (at + 1) s, e)

@@ -1,0 +1,40 @@
+// Bytes compared with zeros and with each other.
+ghost use mathlib.Core.Path.{_≡_};
+ghost use lib.ListN.{getD};
+ghost use Rattle.slots.specs.Slots.{isZero, sameBytes};
+
+// The byte at a place, 0 past the end.
+pub(crate) fn byte_at(s: &[u8], i: usize) -> u8
+    ensures { λ r. ⌜ r ≡ getD (now (s .entry)) i 0 ⌝ }
+{
+    if i < s.len() { s[i] } else { 0 }
+}
+
+// Whether all bytes are zeros.
+pub fn is_zero(s: &[u8]) -> bool
+    ensures { λ r. ⌜ r ≡ isZero (now (s .entry)) ⌝ }
+{
+    let mut zero = true;
+    let mut i = 0;
+    while i < s.len() {
+        zero = zero & (s[i] == 0);
+        i += 1;
+    }
+    zero
+}
+
+// Whether there are as many bytes here as there, and the same.
+pub fn same_bytes(a: &[u8], b: &[u8]) -> bool
+    ensures { λ r. ⌜ r ≡ sameBytes (now (a .entry)) (now (b .entry)) ⌝ }
+{
+    if a.len() != b.len() {
+        return false;
+    }
+    let mut same = true;
+    let mut i = 0;
+    while i < a.len() {
+        same = same & (a[i] == b[i]);
+        i += 1;
+    }
+    same
+}
