@@ -1,0 +1,73 @@
+-- What `joined` makes of what is held and a record of the same job, by its tests (`joining`): the later lemmas go by these four cases. It is of their job, a slot may hold it, and joining the record again changes nothing (`joined-again`).
+use mathlib.Core.Path.{_≡_, refl, _∙_}
+use mathlib.Core.Bool.{Bool, true, false, cond}
+use mathlib.Core.List.{List}
+use Prim.Native.Nat.{ℕ, _^_, _<_}
+use native.Mathlib.Omega.{arith}
+use borrow.Author.Tests.{ltb-true, ltb-false, le-ltb}
+use lib.Dec.{ltb}
+use Rattle.outcomes.specs.Outcomes.{jobOf, revisionOf}
+use Rattle.slots.specs.Slots.{conflictBytes, isHeld, sameBytes}
+use Rattle.board.specs.Board.{joined}
+use Rattle.board.specs.Messages.{AreBytes}
+use Rattle.slots.proofs.Zeros.{same-is, same-self, differ-is}
+use Rattle.slots.proofs.Conflicts.{number-lt, conflict-job, conflict-revision, conflict-held}
+
+-- a record's job and revision are numbers of four bytes
+pub small-job : (m : List ℕ) → AreBytes m → jobOf m < 2 ^ 32
+small-job m bytes = number-lt 4 6 m bytes
+
+pub small-revision : (m : List ℕ) → AreBytes m → revisionOf m < 2 ^ 32
+small-revision m bytes = number-lt 4 10 m bytes
+
+pub data Joining (held new : List ℕ) : List ℕ → Type 0 where
+  newer : revisionOf held < revisionOf new → Joining held new new
+  older : revisionOf new < revisionOf held → Joining held new held
+  again : held ≡ new → Joining held new held
+  clash : revisionOf held ≡ revisionOf new → (held ≡ new → ⊥) → Joining held new (conflictBytes (jobOf new) (revisionOf new))
+
+pub joining : (held new : List ℕ) → Joining held new (joined held new)
+unfolding joined
+joining held new = by (ltb (revisionOf held) (revisionOf new)) refl (ltb (revisionOf new) (revisionOf held)) refl (sameBytes held new) refl
+  where
+    by : (low : Bool) → ltb (revisionOf held) (revisionOf new) ≡ low → (high : Bool) → ltb (revisionOf new) (revisionOf held) ≡ high → (same : Bool) → sameBytes held new ≡ same →
+        Joining held new (cond low new (cond high held (cond same held (conflictBytes (jobOf new) (revisionOf new)))))
+    by true e high f same g = newer (omega (arith, ltb-true))
+    by false e true f same g = older (omega (arith, ltb-true))
+    by false e false f true g = again (same-is held new g)
+    by false e false f false g = clash (omega (arith, ltb-false)) (differ-is held new g)
+
+pub joined-job : {held new c : List ℕ} → Joining held new c → AreBytes new → jobOf held ≡ jobOf new → jobOf c ≡ jobOf new
+joined-job (newer l) bytes e = refl
+joined-job (older l) bytes e = e
+joined-job (again s) bytes e = e
+joined-job {new} (clash s d) bytes e = conflict-job (jobOf new) (revisionOf new) (small-job new bytes)
+
+pub joined-held : {held new c : List ℕ} → Joining held new c → isHeld held ≡ true → isHeld new ≡ true → isHeld c ≡ true
+joined-held (newer l) f g = g
+joined-held (older l) f g = f
+joined-held (again s) f g = f
+joined-held {new} (clash s d) f g = conflict-held (jobOf new) (revisionOf new)
+
+-- of one revision: the bytes that are held, or a conflict
+level : (held new : List ℕ) → revisionOf held ≡ revisionOf new → joined held new ≡ cond (sameBytes held new) held (conflictBytes (jobOf new) (revisionOf new))
+unfolding joined
+level held new e = rw (e, le-ltb (revisionOf new) (revisionOf new) (omega arith))
+
+pub joined-self : (new : List ℕ) → joined new new ≡ new
+joined-self new = level new new refl ∙ rw (same-self new)
+
+either : (t : Bool) (c : List ℕ) → cond t c c ≡ c
+either true c = refl
+either false c = refl
+
+pub joined-again : (held new : List ℕ) → AreBytes new → joined (joined held new) new ≡ joined held new
+joined-again held new bytes = by (joining held new) refl
+  where
+    by : {c : List ℕ} → Joining held new c → joined held new ≡ c → joined c new ≡ c
+    by (newer l) e = joined-self new
+    by (older l) e = e
+    by (again s) e = e
+    by (clash s d) e =
+        let c = conflictBytes (jobOf new) (revisionOf new) in
+        level c new (conflict-revision (jobOf new) (revisionOf new) (small-revision new bytes)) ∙ either (sameBytes c new) c

@@ -1,0 +1,97 @@
+-- `are_filled` meets its contract: what was found of the slots that were passed, and what holds of the rest, is what holds of all; the measure is how many are left.
+use mathlib.Core.Path.{_≡_, refl, sym, ap, _∙_}
+use mathlib.Core.Bool.{Bool, true, _&&_, and-assoc, and-true}
+use Prim.Native.Nat.{ℕ, suc, _+_, _-_, _*_, _≤_, _<_}
+use native.Mathlib.Omega.{arith}
+use lib.Dec.{ltb}
+use lib.ListN.{take, drop}
+use Rattle.outcomes.specs.Outcomes.{jobOf}
+use Rattle.slots.specs.Slots.{isFilled}
+use Rattle.board.specs.Internals.{filledRising}
+use Rattle.board.proofs.Checked.{rising-next}
+use Rattle.board.proofs.checks.are_filled.Statement.{statement}
+use Rattle.board.proofs.checks.are_filled.Tie as tie
+
+abbrev Inv-loop : tie.InvT-loop
+Inv-loop board n fine₀ above₀ i₀ fine above i = (i ≤ n) × (fine && filledRising (n - i) above (drop (i * 528) board) ≡ filledRising n 0 board)
+
+abbrev μ-loop : tie.MeasureT-loop
+μ-loop board n fine₀ above₀ i₀ fine above i = n - i
+
+loop-holds : tie.Need-loop-holds Inv-loop μ-loop
+loop-holds c =
+    let whole : c .before .args .n - 0 ≡ c .before .args .n = omega arith in
+    (omega arith, rw whole refl)
+
+mul-from : tie.Need-mul-from Inv-loop μ-loop
+mul-from c = omega arith
+
+add-to : tie.Need-add-to Inv-loop μ-loop
+add-to c = omega arith
+
+sub-slot : tie.Need-sub-slot Inv-loop μ-loop
+sub-slot c = omega arith
+
+part-slot-start : tie.Need-part-slot-start Inv-loop μ-loop
+part-slot-start c = omega arith
+
+part-slot-end : tie.Need-part-slot-end Inv-loop μ-loop
+part-slot-end c = omega arith
+
+u32-at-requires : tie.Need-u32-at-requires Inv-loop μ-loop
+u32-at-requires c κs = tt
+
+is-filled-requires : tie.Need-is-filled-requires Inv-loop μ-loop
+is-filled-requires c κs = tt
+
+add-i : tie.Need-add-i Inv-loop μ-loop
+add-i c = omega arith
+
+loop-less : tie.Need-loop-less Inv-loop μ-loop
+loop-less c = omega arith
+
+loop-again : tie.Need-loop-again Inv-loop μ-loop
+loop-again c =
+    let l = c .before .before .before .before .loop in
+    let a = c .before .before .before .before .before .before .args in
+    let b = a .board .now in
+    let slot = take 528 (drop (l .i * 528) b) in
+    let rest : ℕ → Bool = λ job. filledRising (a .n - (l .i + 1)) job (drop ((l .i + 1) * 528) b) in
+    let part : l .i * 528 + 528 - l .i * 528 ≡ 528 = omega arith in
+    let job : c .before .u32-at .result ≡ jobOf slot = c .before .u32-at .ensures ∙ ap (λ (k : ℕ). jobOf (take k (drop (l .i * 528) b))) part in
+    let filled : c .is-filled .result ≡ isFilled slot = c .is-filled .ensures ∙ ap (λ (k : ℕ). isFilled (take k (drop (l .i * 528) b))) part in (
+      omega arith,
+      rw (job, filled)
+          (ap (λ (t : Bool). t && rest (jobOf slot)) (and-assoc (l .fine) (isFilled slot) (ltb (l .above) (jobOf slot)))
+          ∙ and-assoc (l .fine) (isFilled slot && ltb (l .above) (jobOf slot)) (rest (jobOf slot))
+          ∙ ap (λ (t : Bool). l .fine && t) (sym (rising-next (a .n) (l .i) b (omega arith) (l .above)))
+          ∙ l .inv .1),
+    )
+
+returns : tie.Need-returns Inv-loop μ-loop
+unfolding filledRising
+returns c =
+    let l = c .before .loop in
+    let a = c .before .before .before .args in
+    let all : a .n - l .i ≡ 0 = omega arith in
+    let none : filledRising (a .n - l .i) (l .above) (drop (l .i * 528) (a .board .now)) ≡ true = rw all refl in
+    sym (and-true (l .fine)) ∙ ap (λ (t : Bool). l .fine && t) (sym none) ∙ l .inv .1
+
+pub are-filled-spec : {M : Type 1} → statement M
+are-filled-spec =
+    tie.close
+    (tie.spec
+    Inv-loop
+    μ-loop
+    loop-holds
+    mul-from
+    add-to
+    sub-slot
+    part-slot-start
+    part-slot-end
+    u32-at-requires
+    is-filled-requires
+    add-i
+    loop-less
+    loop-again
+    returns)

@@ -1,0 +1,76 @@
+-- `is_board` meets its contract: the slots before the first of length 0 are asked one by one, and the rest for zeros.
+use mathlib.Core.Path.{_≡_, refl, sym, ap, _∙_}
+use mathlib.Core.Bool.{Bool, true, false, _&&_}
+use mathlib.Core.List.{List}
+use Prim.Native.Nat.{ℕ, _+_, _-_, _*_, _≤_, _<_}
+use native.Mathlib.Omega.{arith}
+use borrow.Author.Needs.{needs}
+use borrow.Author.Tests.{eq-eqb, ne-eqb}
+use lib.ListN.{length, take, drop, length-drop}
+use lib.Seq.{take-all}
+use Rattle.slots.specs.Slots.{isZero}
+use Rattle.board.specs.Board.{isBoard, inOrder}
+use Rattle.board.specs.Internals.{namedSlots, filledRising}
+use Rattle.board.proofs.Checked.{checked}
+use Rattle.board.proofs.checks.is_board.Statement.{statement}
+use Rattle.board.proofs.checks.is_board.Tie as tie
+
+-- the two tests of a board of the right size
+tested : (b : List ℕ) → length b ≡ 33792 → isBoard b ≡ filledRising (namedSlots 64 b) 0 b && isZero (drop (namedSlots 64 b * 528) b)
+unfolding isBoard
+tested b e = rw (eq-eqb (length b) 33792 e) (checked 64 0 b e)
+
+returns : tie.Need-returns
+unfolding isBoard
+returns c = rw (ne-eqb (length (c .before .before .args .board .now)) 33792 (c .if1 .taken)) refl
+
+filled-slots-requires : tie.Need-filled-slots-requires
+filled-slots-requires c κs = search needs
+
+mul-end : tie.Need-mul-end
+mul-end c = search needs
+
+are-filled-requires : tie.Need-are-filled-requires
+are-filled-requires c κs = search needs
+
+sub-is-zero : tie.Need-sub-is-zero
+sub-is-zero c = search needs
+
+part-is-zero-start : tie.Need-part-is-zero-start
+part-is-zero-start c = search needs
+
+part-is-zero-end : tie.Need-part-is-zero-end
+part-is-zero-end c = search needs
+
+is-zero-requires : tie.Need-is-zero-requires
+is-zero-requires c κs = search needs
+
+returns-2 : tie.Need-returns-2
+returns-2 c =
+    let b = c .before .before .before .before .before .before .before .args .board .now in
+    let n = c .before .before .before .before .filled-slots in
+    let zero : c .is-zero .result ≡ isZero (drop (n .result * 528) b) = c .is-zero .ensures ∙ ap isZero (take-all (length b - n .result * 528) (drop (n .result * 528) b) (omega (arith, length-drop (n .result * 528) b))) in
+    let filled : filledRising (n .result) 0 b ≡ true = sym (c .before .before .before .are-filled .ensures) ∙ c .before .before .if2 .taken in
+    zero ∙ sym (tested b (omega arith) ∙ rw (← n .ensures .1, filled) refl)
+
+returns-3 : tie.Need-returns-3
+returns-3 c =
+    let b = c .before .before .before .before .before .args .board .now in
+    let n = c .before .before .filled-slots in
+    let not-filled : filledRising (n .result) 0 b ≡ false = sym (c .before .are-filled .ensures) ∙ c .if2 .left in
+    c .if2 .left ∙ sym (tested b (omega arith) ∙ rw (← n .ensures .1, not-filled) refl)
+
+pub is-board-spec : {M : Type 1} → statement M
+is-board-spec =
+    tie.close
+    (tie.spec
+    returns
+    filled-slots-requires
+    mul-end
+    are-filled-requires
+    sub-is-zero
+    part-is-zero-start
+    part-is-zero-end
+    is-zero-requires
+    returns-2
+    returns-3)

@@ -1,0 +1,127 @@
+// A record's way into a board: its place among the slots, the slots after it moved up, and what it makes of a slot of
+// its own job.
+ghost use mathlib.Core.Path.{_≡_};
+ghost use mathlib.Core.Bool.{true};
+ghost use Prim.Native.Nat.{_+_, _*_, _-_, _≤_, _<_};
+ghost use lib.ListN.{length, take, drop};
+ghost use mathlib.Core.List.{_++_};
+ghost use Rattle.records.specs.Layout.{ANSWER_ROOM};
+ghost use Rattle.slots.specs.Slots.{slotOf, contentOf};
+ghost use Rattle.board.specs.Board.{BOARD_SIZE, isBoard, joined};
+ghost use Rattle.board.specs.Internals.{slotsBelow, wayOf, changed, movedUp, placedOn};
+use crate::Posted;
+use crate::SLOTS;
+use crate::checks::filled_slots;
+use little_endian::u32_at;
+use records::ANSWER_ROOM;
+
+// How a record of a job goes into a board: it joins the slot from a place on; it enters between two slots, at a place, and
+// the slots from there up to another place are moved up; or there is no slot for it.
+enum Way {
+    Joins(usize),
+    Enters(usize, usize),
+    NoSlot,
+}
+
+// Places a record, which is not malformed, on a board.
+pub(crate) fn place(board: &mut [u8], message: &[u8]) -> Posted
+    requires { ⌜ isBoard (now board) ≡ true ⌝ }
+    ensures { λ r. ⌜ (r ≡ placedOn (now (board .entry)) (now (message .entry)) .posted) × (now (board .exit) ≡ placedOn (now (board .entry)) (now (message .entry)) .board) ⌝ }
+{
+    match way_of(board, u32_at(message, 6)) {
+        Way::Joins(from) => {
+            let to = from + ANSWER_ROOM;
+            join(&mut board[from..to], message);
+            Posted::Taken
+        }
+        Way::Enters(from, end) => {
+            let to = from + ANSWER_ROOM;
+            move_up(board, from, end);
+            slots::fill(&mut board[from..to], message);
+            Posted::Taken
+        }
+        Way::NoSlot => Posted::Refused(3),
+    }
+}
+
+fn way_of(board: &[u8], job: u32) -> Way
+    requires { ⌜ length (now board) ≡ BOARD_SIZE ⌝ }
+    ensures { λ r. ⌜ r ≡ wayOf (now (board .entry)) job ⌝ }
+{
+    let filled = filled_slots(board);
+    let i = slots_below(board, filled, job);
+    let from = i * ANSWER_ROOM;
+    if (i < filled) & (u32_at(board, from + 6) == job) {
+        return Way::Joins(from);
+    }
+    if filled == SLOTS {
+        return Way::NoSlot;
+    }
+    Way::Enters(from, filled * ANSWER_ROOM)
+}
+
+// How many of the first n slots come before a job.
+fn slots_below(board: &[u8], n: usize, job: u32) -> usize
+    requires { ⌜ (length (now board) ≡ BOARD_SIZE) × (n ≤ 64) ⌝ }
+    ensures { λ r. ⌜ (r ≤ n) × (r ≡ slotsBelow n job (now (board .entry))) ⌝ }
+{
+    let mut i: usize = 0;
+    while i < n && u32_at(board, i * ANSWER_ROOM + 6) < job {
+        i += 1;
+    }
+    i
+}
+
+// What a record of its job makes of a slot.
+enum Change {
+    Nothing,
+    Replaced,
+    Conflict,
+}
+
+fn change_of(slot: &[u8], message: &[u8]) -> Change
+    requires { ⌜ now slot ≡ slotOf (contentOf (now slot)) ⌝ }
+    ensures { λ r. ⌜ changed r (contentOf (now (slot .entry))) (now (message .entry)) ≡ joined (contentOf (now (slot .entry))) (now (message .entry)) ⌝ }
+{
+    let held = u32_at(slot, 10);
+    let new = u32_at(message, 10);
+    if held < new {
+        return Change::Replaced;
+    }
+    if new < held {
+        return Change::Nothing;
+    }
+    let size = slots::content_size(slot);
+    if slots::same_bytes(&slot[..size], message) {
+        return Change::Nothing;
+    }
+    Change::Conflict
+}
+
+// Joins a record to the slot of its job.
+fn join(slot: &mut [u8], message: &[u8])
+    requires { ⌜ now slot ≡ slotOf (contentOf (now slot)) ⌝ }
+    ensures { λ _. ⌜ now (slot .exit) ≡ slotOf (joined (contentOf (now (slot .entry))) (now (message .entry))) ⌝ }
+{
+    match change_of(slot, message) {
+        Change::Nothing => {}
+        Change::Replaced => {
+            slots::fill(slot, message);
+        }
+        Change::Conflict => {
+            slots::fill_conflict(slot, u32_at(message, 6), u32_at(message, 10));
+        }
+    }
+}
+
+// Moves the bytes between two places up by one slot.
+fn move_up(board: &mut [u8], from: usize, to: usize)
+    requires { ⌜ (from ≤ to) × (to + 528 ≤ length (now board)) ⌝ }
+    ensures { λ _. ⌜ now (board .exit) ≡ movedUp from to (now (board .entry)) ⌝ }
+{
+    let mut i = to;
+    while from < i {
+        i -= 1;
+        board[i + ANSWER_ROOM] = board[i];
+    }
+}
