@@ -26,7 +26,7 @@ pub fn run(words: &[String]) -> Result<u8, Stop> {
             (table::questions(&mut input)?, Some(input))
         }
     };
-    let mut output = Output::open(options.value("-o"), input.as_ref())?;
+    let mut output = Output::open(options.value("-o"), input.as_slice())?;
     questions.iter().try_for_each(|question| output.put(&question.bytes()))?;
     output.flush()?;
     Ok(0)

@@ -11,16 +11,10 @@ pub fn run(words: &[String]) -> Result<u8, Stop> {
     let options = Options::read(words, &["--questions"], &[])?;
     let input = Input::open(options.file()?)?;
     let summary = if options.has("--questions") { questions(input)? } else { records(input)? };
-    let mut output = Output::open(None, None)?;
+    let mut output = Output::open(None, &[])?;
     output.put(summary.as_bytes())?;
     output.flush()?;
     Ok(0)
-}
-
-/// A fault with its place, as it is told.
-pub fn located(name: &str, what: &str, fault: &Fault) -> Stop {
-    let Fault { offset, number, words } = fault;
-    Stop::Said(format!("{name}: byte {offset}, {what} {number}: {words}"))
 }
 
 fn questions(input: Input) -> Result<String, Stop> {
@@ -29,7 +23,7 @@ fn questions(input: Input) -> Result<String, Stop> {
     while let Some(slot) = slots.next().map_err(|e| Stop::reading(&name, &e))? {
         if let Err((at, words)) = Question::read(&slot) {
             let offset = slots.offset() + at as u64;
-            return Err(located(&name, "slot", &Fault { offset, number: slots.number, words }));
+            return Stop::said(Fault { offset, number: slots.number, words }.located(&name, "slot"));
         }
     }
     Ok(format!("{name}: {} questions, well-formed\n", slots.number))
@@ -42,7 +36,7 @@ fn records(input: Input) -> Result<String, Stop> {
     let mut refusals = BTreeMap::new();
     loop {
         let next = records.next().map_err(|e| Stop::reading(&name, &e))?;
-        match next.map_err(|fault| located(&name, "record", &fault))?.map(|record| record.outcome) {
+        match next.map_err(|fault| Stop::Said(fault.located(&name, "record")))?.map(|record| record.outcome) {
             None => break,
             Some(Outcome::Answered(entries)) => *answers.entry(entries.len()).or_insert(0u64) += 1,
             Some(Outcome::Refused(number)) => *refusals.entry(number).or_insert(0u64) += 1,

@@ -66,7 +66,7 @@ fn run(words: &[String]) -> Result<u8, Stop> {
 }
 
 fn say(text: &str) -> Result<u8, Stop> {
-    let mut output = streams::Output::open(None, None)?;
+    let mut output = streams::Output::open(None, &[])?;
     output.put(text.as_bytes())?;
     output.flush()?;
     Ok(0)

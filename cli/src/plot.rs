@@ -16,6 +16,7 @@ use crate::streams::{Input, Output};
 use crate::wire::{Record, Records};
 use choice::Choice;
 use curve::Curve;
+use std::slice::from_ref;
 
 /// Runs the command. The output is opened once there is something to write.
 pub fn run(words: &[String]) -> Result<u8, Stop> {
@@ -27,7 +28,7 @@ pub fn run(words: &[String]) -> Result<u8, Stop> {
     let record = record(&slot)?;
     let curve = Curve::of(&slot, &record.outcome);
     let picture = page::page(&question, &record.outcome, curve.as_ref());
-    let mut output = Output::open(options.value("-o"), Some(&input))?;
+    let mut output = Output::open(options.value("-o"), from_ref(&input))?;
     output.put(picture.as_bytes())?;
     output.flush()?;
     Ok(0)

@@ -6,7 +6,6 @@ mod json;
 mod pairs;
 mod table;
 
-use crate::check::located;
 use crate::options::Options;
 use crate::stop::Stop;
 use crate::streams::{Input, Output};
@@ -40,13 +39,13 @@ pub fn run(words: &[String]) -> Result<u8, Stop> {
 
 fn show(input: Input, pairs: &mut Pairs, form: &Form) -> Result<(), Stop> {
     let name = input.name;
-    let mut output = Output::open(None, None)?;
+    let mut output = Output::open(None, &[])?;
     let mut records = Records::new(BufReader::new(input.bytes));
     let mut head = (form.head)(pairs.at_hand());
     let told = loop {
         let next = match records.next() {
             Err(e) => break Err(Stop::reading(&name, &e)),
-            Ok(Err(fault)) => break Err(located(&name, "record", &fault)),
+            Ok(Err(fault)) => break Stop::said(fault.located(&name, "record")),
             Ok(Ok(next)) => next,
         };
         match pairs.next(next.as_ref(), records.number) {

@@ -8,13 +8,14 @@ use crate::stop::{tell, Stop};
 use crate::streams::{Input, Output};
 use crate::wire::SLOT;
 use progress::Progress;
+use std::slice::from_ref;
 
 /// Runs the command; 1 where a question was refused and `--strict` asks.
 pub fn run(words: &[String]) -> Result<u8, Stop> {
     let options = Options::read(words, &["--strict"], &["--jobs", "-o"])?;
     let jobs = jobs(options.value("--jobs"))?;
     let input = Input::open(options.file()?)?;
-    let mut output = Output::open(options.value("-o"), Some(&input))?;
+    let mut output = Output::open(options.value("-o"), from_ref(&input))?;
     let whole = input.file.as_ref().filter(|file| file.is_file());
     let mut progress = Progress::new(whole.map(|file| file.len().div_ceil(SLOT as u64)));
     let name = input.name;

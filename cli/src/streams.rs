@@ -41,12 +41,12 @@ pub struct Output {
 }
 
 impl Output {
-    /// Opens the output once the input is open. The input itself is never overwritten.
-    pub fn open(name: Option<&str>, input: Option<&Input>) -> Result<Output, Stop> {
+    /// Opens the output once the inputs are open. An input itself is never overwritten.
+    pub fn open(name: Option<&str>, inputs: &[Input]) -> Result<Output, Stop> {
         let (name, bytes): (&str, Box<dyn Write>) = match name {
             None | Some("-") => ("standard output", Box::new(io::stdout())),
             Some(name) => {
-                if input.and_then(|input| input.file.as_ref()).is_some_and(|file| is_same(file, name)) {
+                if inputs.iter().any(|input| input.file.as_ref().is_some_and(|file| is_same(file, name))) {
                     return Stop::said(format!("{name} is the input too, and would be overwritten"));
                 }
                 let file = File::create(name).map_err(|e| Stop::writing(name, &e))?;

@@ -1,10 +1,12 @@
 //! The records as they stand in a file: questions written and read, answers and refusals read. Little-endian.
 
+pub mod form;
 pub mod question;
 pub mod record;
 
+pub use form::ROOM;
 pub use question::{Question, Slots, SLOT};
-pub use record::{Entry, Outcome, Record, Records, ROOM};
+pub use record::{Entry, Outcome, Record, Records};
 
 /// A number at a place of some bytes that are known to be long enough.
 macro_rules! number_at {
@@ -31,6 +33,14 @@ pub struct Fault {
     /// The record or slot, counted from 1.
     pub number: u64,
     pub words: String,
+}
+
+impl Fault {
+    /// The fault with its place in a file, as it is told.
+    pub fn located(&self, name: &str, what: &str) -> String {
+        let Fault { offset, number, words } = self;
+        format!("{name}: byte {offset}, {what} {number}: {words}")
+    }
 }
 
 /// Reads until the buffer is full or the input ends, and says how many bytes there were.

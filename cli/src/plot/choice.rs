@@ -1,6 +1,5 @@
 //! Which question of a file is drawn.
 
-use crate::check::located;
 use crate::options::Options;
 use crate::stop::Stop;
 use crate::streams::Input;
@@ -41,7 +40,7 @@ impl Choice {
         };
         // Where it is no question it was read last: a job is found in questions alone.
         let fault = |(at, words)| Fault { offset: slots.offset() + at as u64, number: slots.number, words };
-        Question::read(&slot).map_err(|wrong| located(name, "slot", &fault(wrong)))
+        Question::read(&slot).map_err(|wrong| Stop::Said(fault(wrong).located(name, "slot")))
     }
 
     /// The chosen slot. Where another could be meant too, neither is taken.

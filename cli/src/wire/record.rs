@@ -1,12 +1,9 @@
 //! Answers and refusals, read one after the other. What the wire's rules do not allow is a fault.
 
+use super::form::{behind_head, size_of, ENTRY, HEAD, ROOM};
 use super::{f64_at, i64_at, read_full, u16_at, u32_at, Fault};
 use std::io::{self, Read};
 
-const HEAD: usize = 16;
-const ENTRY: usize = 64;
-/// The room that a record may need: an answer has at most eight entries.
-pub const ROOM: usize = HEAD + 8 * ENTRY;
 /// Stations stand 2^20 apart, from -2^32 + 2^20 to 2^34.
 const STATION: i64 = 1 << 20;
 const FIRST: i64 = STATION - (1 << 32);
@@ -50,9 +47,6 @@ impl Entry {
         if halvings > 20 {
             return Err((8, format!("halvings are {halvings}, above 20")));
         }
-        if chosen > 1 {
-            return Err((12, format!("chosen end is {chosen}, not 0 or 1")));
-        }
         if low < FIRST || low > LAST - (STATION >> halvings) {
             return Err((0, format!("lower end k = {low} is outside the stations")));
         }
@@ -72,13 +66,10 @@ impl Entry {
 
 impl Record {
     /// The record in bytes whose head and size are known to fit each other.
-    fn read(bytes: &[u8]) -> Result<Record, (usize, String)> {
-        let last = u16_at(bytes, 14);
+    pub fn read(bytes: &[u8]) -> Result<Record, (usize, String)> {
+        behind_head(bytes)?;
         let outcome = if u16_at(bytes, 4) == 3 {
-            if !(1..=14).contains(&last) {
-                return Err((14, format!("number is {last}, not 1 to 14")));
-            }
-            Outcome::Refused(last)
+            Outcome::Refused(u16_at(bytes, 14))
         } else {
             let entries = bytes[HEAD..].chunks(ENTRY).enumerate().map(|(i, part)| {
                 let place = |(at, words)| (HEAD + ENTRY * i + at, format!("entry {}: {words}", i + 1));
@@ -88,22 +79,6 @@ impl Record {
         };
         Ok(Record { job: u32_at(bytes, 6), revision: u32_at(bytes, 10), outcome })
     }
-}
-
-/// The size that a head asks for, or what is wrong with it.
-fn size_of(head: &[u8]) -> Result<usize, (usize, String)> {
-    let (length, kind, n) = (u32_at(head, 0), u16_at(head, 4), u16_at(head, 14));
-    let own = match kind {
-        2 if (1..=8).contains(&n) => 12 + ENTRY * usize::from(n),
-        2 => return Err((14, format!("n is {n}, not 1 to 8"))),
-        3 => 12,
-        _ => return Err((4, format!("kind is {kind}, not 2 or 3"))),
-    };
-    if length as usize != own {
-        let words = if kind == 2 { format!("n = {n}") } else { "a refusal".into() };
-        return Err((0, format!("length is {length}, but {words} has the length {own}")));
-    }
-    Ok(4 + own)
 }
 
 /// The records of an input, up to the first fault.
