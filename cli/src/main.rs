@@ -11,6 +11,7 @@ mod plot;
 #[allow(unsafe_code)]
 mod proved;
 mod refusal;
+mod rows;
 mod show;
 mod solve;
 mod stop;

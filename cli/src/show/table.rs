@@ -4,16 +4,12 @@
 use super::circular::changes;
 use super::pairs::Asked;
 use crate::orbit::{end, kind, size, x_of};
-use crate::refusal;
+use crate::rows::{refused, row, speed, INDENT};
 use crate::wire::{Entry, Outcome, Record};
 use crate::words;
 
 pub const HEAD: &str = "       job   rev  transfer  orbit      x of chosen end  end    width k    width x  \
     km/s          x            y            z         size\n";
-
-/// The longest line of words, and what stands before the lines that go on.
-const WIDTH: usize = 118;
-const INDENT: &str = "          ";
 
 pub fn record(record: &Record, asked: &Asked) -> String {
     let mut lines = Vec::new();
@@ -27,10 +23,7 @@ pub fn record(record: &Record, asked: &Asked) -> String {
         }
     }
     match &record.outcome {
-        Outcome::Refused(number) => {
-            let told = format!("refused {number}: {}", refusal::words(*number));
-            lines.extend(words::wrapped(&told, WIDTH, INDENT));
-        }
+        Outcome::Refused(number) => lines.extend(refused(*number)),
         Outcome::Answered(entries) => {
             for (i, entry) in entries.iter().enumerate() {
                 lines.extend(entry_lines(entry, &format!("{} of {}", i + 1, entries.len())));
@@ -40,13 +33,7 @@ pub fn record(record: &Record, asked: &Asked) -> String {
             }
         }
     }
-    let mut text = String::new();
-    let mut before = format!("{:>10} {:>5}", record.job, record.revision);
-    for line in lines {
-        text += &format!("{before}  {line}\n");
-        before = " ".repeat(before.len());
-    }
-    text
+    row(record.job, record.revision, &lines)
 }
 
 fn entry_lines(entry: &Entry, which: &str) -> [String; 2] {
@@ -67,15 +54,6 @@ fn velocity(v: [f64; 3]) -> String {
     [v[0], v[1], v[2], size].map(|part| format!("{:>13}", speed(part, size))).concat()
 }
 
-/// A part of something of a size: six decimals, or with an exponent where those would say too little.
-fn speed(part: f64, size: f64) -> String {
-    if size == 0.0 || (0.01..1e6).contains(&size) {
-        format!("{part:.6}")
-    } else {
-        format!("{part:.5e}")
-    }
-}
-
 fn changes_line(changes: [f64; 2]) -> String {
     let [from, to] = changes.map(|change| speed(change, change));
     let orbits = "Δv from / to a circular orbit in the transfer's plane and sense";
@@ -85,6 +63,7 @@ fn changes_line(changes: [f64; 2]) -> String {
 #[cfg(test)]
 mod tests {
     use super::*;
+    use crate::refusal;
 
     #[test]
     fn every_refusal_says_its_words() {
