@@ -7,13 +7,14 @@ lambert-cli: ask, solve and read Lambert questions with the proved solver
   lambert-cli solve ...      questions to records, on every core
   lambert-cli show ...       records as a table, as JSON or as CSV
   lambert-cli plot ...       one question as a picture: the time over x and the brackets
+  lambert-cli board ...      records of many revisions as a table: what stands for each job
   lambert-cli check ...      is a file of records or questions well-formed, and if not, where
   lambert-cli COMMAND --help
 
 A file named '-', or none, is standard input or standard output. Messages go to standard error.
 
-Exit status: 0 done; 1 with 'solve --strict' where a question was refused; 2 bad usage, bad
-input or a write that failed.
+Exit status: 0 done; 1 with 'solve --strict' where a question was refused, or with 'board --strict'
+where a record was, or a conflict stands; 2 bad usage, bad input or a write that failed.
 
 For example:
   lambert-cli ask --job 1 --r1 7000,0,0 --r2 0,42164,0 --mu earth --time 6h --way short -o q
@@ -44,6 +45,22 @@ refusal its number and what that means.
                      r2, both in the transfer's plane and sense (dv1_circular, dv2_circular)
   --json             an object for each record, one a line
   --csv              a line for each transfer or refusal, after a header
+";
+
+pub const BOARD: &str = "\
+lambert-cli board [--board FILE] [--bytes] [--strict] [RECORDS...] [-o OUT]
+
+Posts records to a board of 64 jobs and shows what stands for each: the outcome of its highest
+revision, or a conflict where different records came for that revision. Up to 64 jobs, neither the
+order of the records nor repeats matter. A record that the board refuses changes nothing, and is
+told on standard error with its place: B1 it is malformed, B2 its job is 0, B3 no slot is free for
+its job. Where an input cannot be cut into records to its end, the status is 2, after the board of
+all that could be read.
+
+  --board FILE   the board to start from, as --bytes wrote it (default: an empty one)
+  --bytes        writes the board's 33792 bytes, not the table
+  --strict       exit status 1 where a record was refused or a conflict stands
+  -o OUT         the file to write (default: standard output)
 ";
 
 pub const PLOT: &str = "\

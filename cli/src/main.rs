@@ -1,7 +1,9 @@
-//! The command for people over the proved solver. It computes no transfer itself: every record comes from `proved`.
+//! The command for people over the proved solver and the proved board. It computes no transfer and keeps no board
+//! itself: every record, and every change of a board, comes from `proved`.
 #![deny(unsafe_code)]
 
 mod ask;
+mod board;
 mod check;
 mod csv;
 mod help;
@@ -25,11 +27,12 @@ use stop::Stop;
 /// A command's name, its help and what runs it.
 type Command = (&'static str, &'static str, fn(&[String]) -> Result<u8, Stop>);
 
-const COMMANDS: [Command; 5] = [
+const COMMANDS: [Command; 6] = [
     ("ask", help::ASK, ask::run),
     ("solve", help::SOLVE, solve::run),
     ("show", help::SHOW, show::run),
     ("plot", help::PLOT, plot::run),
+    ("board", help::BOARD, board::run),
     ("check", help::CHECK, check::run),
 ];
 

@@ -1,4 +1,4 @@
-//! The proved solver over its C interface, behind safe functions. The only unsafe code of this program.
+//! The proved solver and the proved board over their C interfaces, behind safe functions. The only unsafe code of this program.
 //! SAFETY of each call: a slice is passed as a pointer, then its length; slices live until the call returns and do
 //! not overlap; the function keeps none of them, and it is proved to end for every content.
 
@@ -10,6 +10,7 @@ extern "C" {
     fn lambert_stations(question: *const u8, size: usize) -> u64;
     fn lambert_station(i: u16) -> i64;
     fn lambert_time(question: *const u8, size: usize, k: i64) -> u64;
+    fn lambert_post(board: *mut u8, board_size: usize, record: *const u8, size: usize) -> u8;
 }
 
 /// The record of a question of any length.
@@ -34,6 +35,13 @@ pub fn stations(question: &[u8]) -> Vec<i64> {
 pub fn time(question: &[u8], k: i64) -> u64 {
     unsafe { lambert_time(question.as_ptr(), question.len(), k) }
 }
+
+/// Posts a record to a board: the number of its refusal, or `TAKEN`. A refusal changes nothing.
+pub fn post(board: &mut [u8], record: &[u8]) -> u8 {
+    unsafe { lambert_post(board.as_mut_ptr(), board.len(), record.as_ptr(), record.len()) }
+}
+
+pub const TAKEN: u8 = 255;
 
 #[cfg(test)]
 mod tests;

@@ -1,10 +1,13 @@
 //! The records as they stand in a file: questions written and read, answers and refusals read. Little-endian.
 
 pub mod form;
+pub mod frames;
 pub mod question;
 pub mod record;
+pub mod slots;
 
 pub use form::ROOM;
+pub use frames::Frames;
 pub use question::{Question, Slots, SLOT};
 pub use record::{Entry, Outcome, Record, Records};
 

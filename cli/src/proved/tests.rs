@@ -1,4 +1,5 @@
-use super::{respond, stations, time, wanted};
+use super::{post, respond, stations, time, wanted, TAKEN};
+use crate::wire::slots::BOARD;
 use crate::wire::SLOT;
 
 const REFUSED_1: [u8; 16] = [12, 0, 0, 0, 3, 0, 0, 0, 0, 0, 0, 0, 0, 0, 1, 0];
@@ -38,6 +39,18 @@ fn gives_the_worked_times() {
         assert_eq!(time(worked, k), u64::MAX, "k = {k}");
     }
     assert_eq!((wanted(&worked[..81]), time(&[], 0)), (u64::MAX, u64::MAX));
+}
+
+#[test]
+fn posts_to_boards_of_the_right_size_alone() {
+    let record = respond(&include_bytes!("../../../samples/questions")[..SLOT]);
+    for size in [0, 1, BOARD - 1, BOARD + 1] {
+        assert_eq!(post(&mut vec![0; size], &record), 0, "{size} bytes");
+    }
+    let mut board = vec![0; BOARD];
+    let told = [&[][..], &REFUSED_1, &record].map(|bytes| post(&mut board, bytes));
+    assert_eq!(told, [1, 2, TAKEN]);
+    assert!(board[..16] == record && board[16..].iter().all(|byte| *byte == 0));
 }
 
 /// Run by `cli/test`, which names a file of questions and the file of records that `lambert` gave.

@@ -40,3 +40,12 @@ pub fn behind_head(bytes: &[u8]) -> Result<(), (usize, String)> {
     }
     Ok(())
 }
+
+/// What is wrong with a record that was cut out of its input by its length.
+pub fn framed(bytes: &[u8]) -> Result<(), (usize, String)> {
+    if bytes.len() < HEAD {
+        return Err((0, format!("length is {}, but no record is shorter than 12", bytes.len() - 4)));
+    }
+    size_of(&bytes[..HEAD])?;
+    behind_head(bytes)
+}

@@ -1,0 +1,74 @@
+//! `board`: the outcome of each job's highest revision, in whatever order the records came.
+
+mod posting;
+mod table;
+
+use crate::options::Options;
+use crate::proved::post;
+use crate::stop::{tell, Stop};
+use crate::streams::{Input, Output};
+use crate::wire::slots::{filled, Held, BOARD};
+use posting::Tally;
+use std::io::Read;
+
+/// Runs the command; 2 where an input could not be read to its end, and 1 where `--strict` asks. The output is
+/// opened once all is read.
+pub fn run(words: &[String]) -> Result<u8, Stop> {
+    let options = Options::read(words, &["--strict", "--bytes"], &["--board", "-o"])?;
+    let mut inputs = open(&options)?;
+    let mut stored = options.value("--board").map(|name| Input::open(Some(name))).transpose()?;
+    let mut board = stored.as_mut().map_or(Ok(vec![0; BOARD]), read)?;
+    let mut tally = Tally::default();
+    inputs.iter_mut().try_for_each(|input| posting::post_all(input, &mut board, &mut tally))?;
+    inputs.extend(stored);
+    let mut output = Output::open(options.value("-o"), &inputs)?;
+    if options.has("--bytes") {
+        output.put(&board)?;
+    } else {
+        output.put(table::table(&board).as_bytes())?;
+    }
+    output.flush()?;
+    Ok(status(&board, &tally, options.has("--strict")))
+}
+
+/// The inputs that the records come from.
+fn open(options: &Options) -> Result<Vec<Input>, Stop> {
+    let none = options.files.is_empty();
+    if options.value("--board") == Some("-") && (none || options.files.iter().any(|name| name == "-")) {
+        return Stop::said("records and the board cannot both come from standard input");
+    }
+    if none {
+        return Ok(vec![Input::open(None)?]);
+    }
+    options.files.iter().map(|name| Input::open(Some(name))).collect()
+}
+
+/// A stored board. A post of no bytes changes none, and says whether it is one.
+fn read(input: &mut Input) -> Result<Vec<u8>, Stop> {
+    let Input { name, bytes, .. } = input;
+    let mut board = Vec::new();
+    bytes.take(BOARD as u64 + 1).read_to_end(&mut board).map_err(|e| Stop::reading(name, &e))?;
+    if post(&mut board, &[]) != posting::NO_BOARD {
+        return Ok(board);
+    }
+    let why = match board.len() {
+        BOARD => "its slots are not filled as those of a board are".into(),
+        size if size < BOARD => format!("it has {size} bytes, and a board has {BOARD}"),
+        _ => format!("it has more than the {BOARD} bytes of a board"),
+    };
+    Stop::said(format!("{name}: B0, no board: {why}"))
+}
+
+fn status(board: &[u8], tally: &Tally, strict: bool) -> u8 {
+    let conflicts = filled(board).filter(|slot| slot.held == Held::Conflict).count();
+    let Tally { records, refused, unread } = *tally;
+    let failed = strict && (refused > 0 || conflicts > 0);
+    if failed {
+        let s = if conflicts == 1 { " stands" } else { "s stand" };
+        tell(&format!("{refused} of {records} records refused, {conflicts} conflict{s}"));
+    }
+    match unread {
+        true => 2,
+        false => failed.into(),
+    }
+}
