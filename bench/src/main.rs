@@ -1,5 +1,6 @@
 //! Compares the proved code with the reference, bit for bit, and times both on the same operands.
 
+mod posts;
 mod proved;
 mod questions;
 mod sweeps;
@@ -12,8 +13,8 @@ use std::process::ExitCode;
 
 const USAGE: &str = "usage: bench time|compare|questions
   time      how long each call of the proved code and of the reference takes, and the ratio
-  compare   the proved code against the reference on two million roots, one million places and 500 sweeps
-            of no pattern
+  compare   the proved code against the reference on two million roots, one million places, 500 sweeps and
+            20,000 posts of no pattern
   questions how many whole questions a second the proved program and the reference answer, and its memory";
 
 /// What stands for a void place over the C interface.
@@ -25,9 +26,15 @@ fn main() -> ExitCode {
             let root = time_roots();
             time_places(root);
             sweeps::time();
+            posts::time();
             ExitCode::SUCCESS
         }
-        "compare" if compare_roots(2_000_000) && compare_places(1_000_000) && sweeps::compare(500) => {
+        "compare"
+            if compare_roots(2_000_000)
+                && compare_places(1_000_000)
+                && sweeps::compare(500)
+                && posts::compare(20_000) =>
+        {
             ExitCode::SUCCESS
         }
         "compare" => ExitCode::FAILURE,
