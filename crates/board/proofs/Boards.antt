@@ -9,18 +9,14 @@ use borrow.Author.Tests.{ltb-true, lt-ltb, eqb-true, eq-eqb}
 use lib.Dec.{ltb, eqb}
 use lib.ListN.{length, take, drop, replicate, length-append, length-drop, length-replicate, take-append-drop, replicate-append-replicate}
 use lib.Seq.{take-all, take-at, drop-at, take-append-le, take-append-add, length-take-le}
-use Rattle.records.specs.Layout.{ANSWER_ROOM}
+use Rattle.records.specs.Layout.{answerRoom}
 use Rattle.outcomes.specs.Outcomes.{jobOf}
 use Rattle.slots.specs.Slots.{padded, slotOf, contentOf, isHeld, isFilled, isZero}
 use Rattle.slots.proofs.Padding.{padded-length}
 use Rattle.slots.proofs.Zeros.{both, zero-is, zeros-zero, zero-append}
 use Rattle.slots.proofs.Held.{content-back, slot-filled, slot-not-zero, slot-job, content-held, slot-back, content-job}
-use Rattle.board.specs.Board.{SLOTS, BOARD_SIZE, inOrder, isBoard, heldIn, heldOn, slotsBytes, boardOf, emptyBoard}
-
--- what may stand in slots, in rising job number above a job
-pub data Rising : ℕ → List (List ℕ) → Type 0 where
-  none : {above : ℕ} → Rising above []
-  next : {above : ℕ} {c : List ℕ} {cs : List (List ℕ)} → above < jobOf c → isHeld c ≡ true → Rising (jobOf c) cs → Rising above (c ∷ cs)
+use Rattle.board.specs.Messages.{HeldRising, none, next}
+use Rattle.board.specs.Board.{SLOTS, boardSize, inOrder, isBoard, heldIn, heldOn, slotsBytes, boardOf, emptyBoard}
 
 -- ---- bytes and zeros
 
@@ -52,25 +48,25 @@ padded-none n = take-all n (zeros n) (omega (arith, length-replicate {A = ℕ} n
 
 -- the bytes of n slots that hold these
 unfoldable pub slotsIn : ℕ → List (List ℕ) → List ℕ
-slotsIn n cs = padded (n * ANSWER_ROOM) (slotsBytes cs)
+slotsIn n cs = padded (n * answerRoom) (slotsBytes cs)
 
-one-more : (n : ℕ) → suc n * ANSWER_ROOM ≡ ANSWER_ROOM + n * ANSWER_ROOM
+one-more : (n : ℕ) → suc n * answerRoom ≡ answerRoom + n * answerRoom
 one-more n = omega arith
 
 pub slots-next : (n : ℕ) (c : List ℕ) (cs : List (List ℕ)) → slotsIn (suc n) (c ∷ cs) ≡ slotOf c ++ slotsIn n cs
 unfolding slotsIn slotsBytes
 slots-next n c cs =
     ap (λ (k : ℕ). padded k (slotOf c ++ slotsBytes cs)) (one-more n)
-    ∙ padded-append ANSWER_ROOM (n * ANSWER_ROOM) (slotOf c) (slotsBytes cs) (padded-length ANSWER_ROOM c)
+    ∙ padded-append answerRoom (n * answerRoom) (slotOf c) (slotsBytes cs) (padded-length answerRoom c)
 
-pub slots-none : (n : ℕ) → slotsIn n [] ≡ zeros (n * ANSWER_ROOM)
+pub slots-none : (n : ℕ) → slotsIn n [] ≡ zeros (n * answerRoom)
 unfolding slotsIn slotsBytes
-slots-none n = padded-none (n * ANSWER_ROOM)
+slots-none n = padded-none (n * answerRoom)
 
 -- ---- from bytes to what they hold
 
 pub record Told (n above : ℕ) (b : List ℕ) : Type 0 where
-  pub rising : Rising above (heldIn n b)
+  pub rising : HeldRising above (heldIn n b)
   pub few : length (heldIn n b) ≤ n
   pub bytes : b ≡ slotsIn n (heldIn n b)
 
@@ -79,16 +75,16 @@ unfolding slotsIn slotsBytes padded
 no-slots [] e = refl
 no-slots (x ∷ xs) e = absurd (omega arith)
 
-pub told : (n above : ℕ) (b : List ℕ) → length b ≡ n * ANSWER_ROOM → inOrder n above b ≡ true → Told n above b
+pub told : (n above : ℕ) (b : List ℕ) → length b ≡ n * answerRoom → inOrder n above b ≡ true → Told n above b
 unfolding heldIn inOrder
 told zero above b e h = record { rising = none; few = omega arith; bytes = no-slots b e }
-told (suc n) above b e h = by (λ job f. told n job (drop ANSWER_ROOM b) (omega (arith, length-drop ANSWER_ROOM b)) f) (isZero b) refl h
+told (suc n) above b e h = by (λ job f. told n job (drop answerRoom b) (omega (arith, length-drop answerRoom b)) f) (isZero b) refl h
   where
     slot : List ℕ
-    slot = take ANSWER_ROOM b
+    slot = take answerRoom b
 
     rest : List ℕ
-    rest = drop ANSWER_ROOM b
+    rest = drop answerRoom b
 
     held : Bool → List (List ℕ)
     held z = cond z [] (contentOf slot ∷ heldIn n rest)
@@ -103,7 +99,7 @@ told (suc n) above b e h = by (λ job f. told n job (drop ANSWER_ROOM b) (omega 
         }
     by below false z f =
         let these : heldIn (suc n) b ≡ contentOf slot ∷ heldIn n rest = ap held z in
-        let size : length slot ≡ ANSWER_ROOM = length-take-le ANSWER_ROOM b (omega arith) in
+        let size : length slot ≡ answerRoom = length-take-le answerRoom b (omega arith) in
         let parts = both (isFilled slot && ltb above (jobOf slot)) (inOrder n (jobOf slot) rest) f in
         let first = both (isFilled slot) (ltb above (jobOf slot)) (parts .0) in
         let job = content-job slot (first .0) in
@@ -112,46 +108,46 @@ told (suc n) above b e h = by (λ job f. told n job (drop ANSWER_ROOM b) (omega 
         record {
           rising = rw these (next low (content-held slot (first .0)) (rw (← job) at (more .rising)));
           few = rw these (omega (arith, more .few));
-          bytes = rw these (sym (take-append-drop ANSWER_ROOM b) ∙ ap (λ (l : List ℕ). l ++ rest) (slot-back slot (first .0) size) ∙ ap (λ (l : List ℕ). slotOf (contentOf slot) ++ l) (more .bytes) ∙ sym (slots-next n (contentOf slot) (heldIn n rest)));
+          bytes = rw these (sym (take-append-drop answerRoom b) ∙ ap (λ (l : List ℕ). l ++ rest) (slot-back slot (first .0) size) ∙ ap (λ (l : List ℕ). slotOf (contentOf slot) ++ l) (more .bytes) ∙ sym (slots-next n (contentOf slot) (heldIn n rest)));
         }
 
-pub board-held : (b : List ℕ) → isBoard b ≡ true → Rising 0 (heldOn b) × ((length (heldOn b) ≤ SLOTS) × (b ≡ boardOf (heldOn b)))
+pub board-held : (b : List ℕ) → isBoard b ≡ true → HeldRising 0 (heldOn b) × ((length (heldOn b) ≤ SLOTS) × (b ≡ boardOf (heldOn b)))
 unfolding isBoard boardOf slotsIn
 board-held b h =
-    let parts = both (eqb (length b) BOARD_SIZE) (inOrder SLOTS 0 b) h in
-    let these = told SLOTS 0 b (eqb-true (length b) BOARD_SIZE (parts .0)) (parts .1) in
+    let parts = both (eqb (length b) boardSize) (inOrder SLOTS 0 b) h in
+    let these = told SLOTS 0 b (eqb-true (length b) boardSize (parts .0)) (parts .1) in
     (these .rising, (these .few, these .bytes))
 
 -- ---- and back
 
-slots-length : (n : ℕ) (cs : List (List ℕ)) → length (slotsIn n cs) ≡ n * ANSWER_ROOM
+slots-length : (n : ℕ) (cs : List (List ℕ)) → length (slotsIn n cs) ≡ n * answerRoom
 unfolding slotsIn
-slots-length n cs = padded-length (n * ANSWER_ROOM) (slotsBytes cs)
+slots-length n cs = padded-length (n * answerRoom) (slotsBytes cs)
 
-pub read-back : (n above : ℕ) (cs : List (List ℕ)) → Rising above cs → length cs ≤ n → (inOrder n above (slotsIn n cs) ≡ true) × (heldIn n (slotsIn n cs) ≡ cs)
+pub read-back : (n above : ℕ) (cs : List (List ℕ)) → HeldRising above cs → length cs ≤ n → (inOrder n above (slotsIn n cs) ≡ true) × (heldIn n (slotsIn n cs) ≡ cs)
 unfolding heldIn inOrder
 read-back zero above [] r h = (refl, refl)
 read-back zero above (c ∷ cs) r h = absurd (omega arith)
 read-back (suc n) above [] r h =
-    let z : isZero (slotsIn (suc n) []) ≡ true = ap isZero (slots-none (suc n)) ∙ zeros-zero (suc n * ANSWER_ROOM) in
+    let z : isZero (slotsIn (suc n) []) ≡ true = ap isZero (slots-none (suc n)) ∙ zeros-zero (suc n * answerRoom) in
     (rw z refl, rw z refl)
 read-back (suc n) above (c ∷ cs) (next low held r) h =
     let more = read-back n (jobOf c) cs r (omega arith) in
     let rest = slotsIn n cs in
-    let first : take ANSWER_ROOM (slotOf c ++ rest) ≡ slotOf c = take-at (slotOf c) rest ANSWER_ROOM (padded-length ANSWER_ROOM c) in
-    let after : drop ANSWER_ROOM (slotOf c ++ rest) ≡ rest = drop-at (slotOf c) rest ANSWER_ROOM (padded-length ANSWER_ROOM c) in
+    let first : take answerRoom (slotOf c ++ rest) ≡ slotOf c = take-at (slotOf c) rest answerRoom (padded-length answerRoom c) in
+    let after : drop answerRoom (slotOf c ++ rest) ≡ rest = drop-at (slotOf c) rest answerRoom (padded-length answerRoom c) in
     let z : isZero (slotOf c ++ rest) ≡ false = zero-append (slotOf c) rest ∙ ap (λ (t : Bool). t && isZero rest) (slot-not-zero c held) in
     rw (slots-next n c cs) (
       rw (z, first, after, slot-filled c held, slot-job c, lt-ltb above (jobOf c) low) (more .0),
       rw (z, first, after, content-back c held) (ap (λ l. c ∷ l) (more .1)),
     )
 
-pub held-board : (cs : List (List ℕ)) → Rising 0 cs → length cs ≤ SLOTS → (isBoard (boardOf cs) ≡ true) × (heldOn (boardOf cs) ≡ cs)
+pub held-board : (cs : List (List ℕ)) → HeldRising 0 cs → length cs ≤ SLOTS → (isBoard (boardOf cs) ≡ true) × (heldOn (boardOf cs) ≡ cs)
 unfolding isBoard boardOf slotsIn
 held-board cs r h =
     let back = read-back SLOTS 0 cs r h in
-    (rw (eq-eqb (length (slotsIn SLOTS cs)) BOARD_SIZE (slots-length SLOTS cs)) (back .0), back .1)
+    (rw (eq-eqb (length (slotsIn SLOTS cs)) boardSize (slots-length SLOTS cs)) (back .0), back .1)
 
 pub empty-board : emptyBoard ≡ boardOf []
 unfolding emptyBoard boardOf slotsBytes
-empty-board = sym (padded-none BOARD_SIZE)
+empty-board = sym (padded-none boardSize)

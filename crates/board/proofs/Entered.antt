@@ -1,4 +1,4 @@
--- A record's way into a board, in its bytes: the slots before its job stay, and the slot of its job is joined (`enters-slot`), or the slots after
+-- How a record goes into a board, in its bytes: the slots before its job stay, and the slot of its job is joined (`enters-slot`), or the slots after
 -- it are moved up and it stands in a slot of its own (`enters-new`), or there is none free (`enters-none`): as `placed` says of what is held.
 use mathlib.Core.Path.{_≡_, refl, sym, ap, _∙_}
 use mathlib.Core.Bool.{Bool, true, false, cond, _&&_}
@@ -13,19 +13,20 @@ use lib.Dec.{ltb, eqb}
 use lib.ListN.{length, take, drop, replicate, getD, length-append, length-drop, length-replicate, take-append-drop, replicate-append-replicate}
 use lib.Seq.{take-all, take-at, drop-at, drop-drop, take-append-le, take-append-add, drop-append-add, length-take-le, drop-append-le, take-take}
 use Rattle.little_endian.specs.Bytes.{numberAt}
-use Rattle.records.specs.Layout.{LENGTH, ANSWER_ROOM, valueOf}
+use Rattle.records.specs.Layout.{LENGTH, answerRoom, valueOf}
 use Rattle.outcomes.specs.Outcomes.{jobOf}
 use Rattle.slots.specs.Slots.{padded, slotOf, contentOf, isHeld}
 use Rattle.slots.proofs.Padding.{padded-length, number-take, number-drop}
 use Rattle.slots.proofs.Zeros.{both, zeros-zero, zero-number}
 use Rattle.slots.proofs.Held.{slot-named, slot-job, content-back}
-use Rattle.board.specs.declared.moves.Way.{Way}
-use Rattle.board.specs.declared.moves.Way.the-variants.{Joins, Enters, NoSlot}
+use Rattle.board.specs.declared.moves.Route.{Route}
+use Rattle.board.specs.declared.moves.Route.the-variants.{Joins, Enters, NoneFree}
 use Rattle.board.specs.declared.Posted.{Posted}
 use Rattle.board.specs.declared.Posted.the-variants.{Taken, Refused}
-use Rattle.board.specs.Board.{SLOTS, BOARD_SIZE, inOrder, isBoard, heldOn, slotsBytes, boardOf, joined, placed}
-use Rattle.board.specs.Internals.{namedSlots, slotsBelow, wayOf, movedUp, placedOn}
-use Rattle.board.proofs.Boards.{Rising, none, next, zeros, padded-append, slotsIn, slots-next, slots-none, board-held}
+use Rattle.board.specs.Messages.{HeldRising, none, next}
+use Rattle.board.specs.Board.{SLOTS, boardSize, inOrder, isBoard, heldOn, slotsBytes, boardOf, joined, placed, placedOn}
+use Rattle.board.specs.Internals.{slotsBeforeFree, slotsBelow, routeOf, movedUp}
+use Rattle.board.proofs.Boards.{zeros, padded-append, slotsIn, slots-next, slots-none, board-held}
 
 -- ---- the bytes of slots one after another
 
@@ -34,19 +35,19 @@ unfolding slotsBytes
 slots-join [] post = refl
 slots-join (c ∷ cs) post = ap (λ l. slotOf c ++ l) (slots-join cs post) ∙ sym (append-assoc (slotOf c) (slotsBytes cs) (slotsBytes post))
 
-slots-size : (cs : List (List ℕ)) → length (slotsBytes cs) ≡ length cs * ANSWER_ROOM
+slots-size : (cs : List (List ℕ)) → length (slotsBytes cs) ≡ length cs * answerRoom
 unfolding slotsBytes
 slots-size [] = refl
-slots-size (c ∷ cs) = length-append (slotOf c) (slotsBytes cs) ∙ omega (arith, padded-length ANSWER_ROOM c, slots-size cs)
+slots-size (c ∷ cs) = length-append (slotOf c) (slotsBytes cs) ∙ omega (arith, padded-length answerRoom c, slots-size cs)
 
 slots-append : (m : ℕ) (pre post : List (List ℕ)) → slotsIn (length pre + m) (pre ++ post) ≡ slotsBytes pre ++ slotsIn m post
 unfolding slotsIn
 slots-append m pre post =
-    ap (λ l. padded ((length pre + m) * ANSWER_ROOM) l) (slots-join pre post)
+    ap (λ l. padded ((length pre + m) * answerRoom) l) (slots-join pre post)
     ∙ ap (λ (k : ℕ). padded k (slotsBytes pre ++ slotsBytes post)) (sum (length pre) m)
-    ∙ padded-append (length pre * ANSWER_ROOM) (m * ANSWER_ROOM) (slotsBytes pre) (slotsBytes post) (slots-size pre)
+    ∙ padded-append (length pre * answerRoom) (m * answerRoom) (slotsBytes pre) (slotsBytes post) (slots-size pre)
   where
-    sum : (a b : ℕ) → (a + b) * ANSWER_ROOM ≡ a * ANSWER_ROOM + b * ANSWER_ROOM
+    sum : (a b : ℕ) → (a + b) * answerRoom ≡ a * answerRoom + b * answerRoom
     sum a b = omega arith
 
 -- the slot after some, and what it holds put in its place
@@ -54,35 +55,35 @@ module _ (m : ℕ) (pre post : List (List ℕ)) where
   around : (c : List ℕ) → slotsIn (length pre + suc m) (pre ++ (c ∷ post)) ≡ slotsBytes pre ++ (slotOf c ++ slotsIn m post)
   around c = slots-append (suc m) pre (c ∷ post) ∙ ap (λ l. slotsBytes pre ++ l) (slots-next m c post)
 
-  from-slot : (c : List ℕ) → drop (length pre * ANSWER_ROOM) (slotsIn (length pre + suc m) (pre ++ (c ∷ post))) ≡ slotOf c ++ slotsIn m post
-  from-slot c = ap (drop (length pre * ANSWER_ROOM)) (around c) ∙ drop-at (slotsBytes pre) (slotOf c ++ slotsIn m post) (length pre * ANSWER_ROOM) (slots-size pre)
+  from-slot : (c : List ℕ) → drop (length pre * answerRoom) (slotsIn (length pre + suc m) (pre ++ (c ∷ post))) ≡ slotOf c ++ slotsIn m post
+  from-slot c = ap (drop (length pre * answerRoom)) (around c) ∙ drop-at (slotsBytes pre) (slotOf c ++ slotsIn m post) (length pre * answerRoom) (slots-size pre)
 
-  the-slot : (c : List ℕ) → midOf (length pre * ANSWER_ROOM) ANSWER_ROOM (slotsIn (length pre + suc m) (pre ++ (c ∷ post))) ≡ slotOf c
-  the-slot c = ap (take ANSWER_ROOM) (from-slot c) ∙ take-at (slotOf c) (slotsIn m post) ANSWER_ROOM (padded-length ANSWER_ROOM c)
+  the-slot : (c : List ℕ) → midOf (length pre * answerRoom) answerRoom (slotsIn (length pre + suc m) (pre ++ (c ∷ post))) ≡ slotOf c
+  the-slot c = ap (take answerRoom) (from-slot c) ∙ take-at (slotOf c) (slotsIn m post) answerRoom (padded-length answerRoom c)
 
-  put-slot : (c x : List ℕ) → putMid (length pre * ANSWER_ROOM) ANSWER_ROOM (slotsIn (length pre + suc m) (pre ++ (c ∷ post))) (slotOf x) ≡ slotsIn (length pre + suc m) (pre ++ (x ∷ post))
+  put-slot : (c x : List ℕ) → putMid (length pre * answerRoom) answerRoom (slotsIn (length pre + suc m) (pre ++ (c ∷ post))) (slotOf x) ≡ slotsIn (length pre + suc m) (pre ++ (x ∷ post))
   put-slot c x =
-      let before : take (length pre * ANSWER_ROOM) (slotsIn (length pre + suc m) (pre ++ (c ∷ post))) ≡ slotsBytes pre =
-      ap (take (length pre * ANSWER_ROOM)) (around c) ∙ take-at (slotsBytes pre) (slotOf c ++ slotsIn m post) (length pre * ANSWER_ROOM) (slots-size pre) in
-      let behind : drop ANSWER_ROOM (drop (length pre * ANSWER_ROOM) (slotsIn (length pre + suc m) (pre ++ (c ∷ post)))) ≡ slotsIn m post =
-      ap (drop ANSWER_ROOM) (from-slot c) ∙ drop-at (slotOf c) (slotsIn m post) ANSWER_ROOM (padded-length ANSWER_ROOM c) in
+      let before : take (length pre * answerRoom) (slotsIn (length pre + suc m) (pre ++ (c ∷ post))) ≡ slotsBytes pre =
+      ap (take (length pre * answerRoom)) (around c) ∙ take-at (slotsBytes pre) (slotOf c ++ slotsIn m post) (length pre * answerRoom) (slots-size pre) in
+      let behind : drop answerRoom (drop (length pre * answerRoom) (slotsIn (length pre + suc m) (pre ++ (c ∷ post)))) ≡ slotsIn m post =
+      ap (drop answerRoom) (from-slot c) ∙ drop-at (slotOf c) (slotsIn m post) answerRoom (padded-length answerRoom c) in
       rw (before, behind) (sym (around x))
 
 -- bytes moved up, and others put in the place that they leave
-put-moved : (p q : ℕ) (P Q zs Z X : List ℕ) → length P ≡ p → length Q ≡ q → length zs ≡ ANSWER_ROOM →
-    putMid p ANSWER_ROOM (movedUp p (p + q) (P ++ (Q ++ (zs ++ Z)))) X ≡ P ++ (X ++ (Q ++ Z))
+put-moved : (p q : ℕ) (P Q zs Z X : List ℕ) → length P ≡ p → length Q ≡ q → length zs ≡ answerRoom →
+    putMid p answerRoom (movedUp p (p + q) (P ++ (Q ++ (zs ++ Z)))) X ≡ P ++ (X ++ (Q ++ Z))
 unfolding movedUp
 put-moved p q P Q zs Z X hp hq hz =
     let b = P ++ (Q ++ (zs ++ Z)) in
-    let first = take (p + ANSWER_ROOM) b in
-    let long : length first ≡ p + ANSWER_ROOM = length-take-le (p + ANSWER_ROOM) b (omega (arith, length-append P (Q ++ (zs ++ Z)), length-append Q (zs ++ Z), length-append zs Z, hp, hq, hz)) in
+    let first = take (p + answerRoom) b in
+    let long : length first ≡ p + answerRoom = length-take-le (p + answerRoom) b (omega (arith, length-append P (Q ++ (zs ++ Z)), length-append Q (zs ++ Z), length-append zs Z, hp, hq, hz)) in
     let middle : take (p + q - p) (drop p b) ≡ Q = rw (drop-at P (Q ++ (zs ++ Z)) p hp, back p q) (take-at Q (zs ++ Z) q hq) in
-    let last : drop (p + q + ANSWER_ROOM) b ≡ Z =
-    sym (drop-drop ANSWER_ROOM (p + q) b) ∙ ap (drop ANSWER_ROOM) (sym (drop-drop q p b)) ∙ ap (λ l. drop ANSWER_ROOM (drop q l)) (drop-at P (Q ++ (zs ++ Z)) p hp) ∙ ap (drop ANSWER_ROOM) (drop-at Q (zs ++ Z) q hq) ∙ drop-at zs Z ANSWER_ROOM hz in
-    let whole : first ++ take (p + q - p) (drop p b) ++ drop (p + q + ANSWER_ROOM) b ≡ first ++ (Q ++ Z) = rw (middle, last) (append-assoc first Q Z) in
-    let before : take p (first ++ (Q ++ Z)) ≡ P = take-append-le p first (Q ++ Z) (omega (arith, long)) ∙ take-take p (p + ANSWER_ROOM) b (omega arith) ∙ take-at P (Q ++ (zs ++ Z)) p hp in
-    let behind : drop ANSWER_ROOM (drop p (first ++ (Q ++ Z))) ≡ Q ++ Z = drop-drop ANSWER_ROOM p (first ++ (Q ++ Z)) ∙ drop-at first (Q ++ Z) (p + ANSWER_ROOM) long in
-    ap (λ (l : List ℕ). putMid p ANSWER_ROOM l X) whole ∙ rw (before, behind) refl
+    let last : drop (p + q + answerRoom) b ≡ Z =
+    sym (drop-drop answerRoom (p + q) b) ∙ ap (drop answerRoom) (sym (drop-drop q p b)) ∙ ap (λ l. drop answerRoom (drop q l)) (drop-at P (Q ++ (zs ++ Z)) p hp) ∙ ap (drop answerRoom) (drop-at Q (zs ++ Z) q hq) ∙ drop-at zs Z answerRoom hz in
+    let whole : first ++ take (p + q - p) (drop p b) ++ drop (p + q + answerRoom) b ≡ first ++ (Q ++ Z) = rw (middle, last) (append-assoc first Q Z) in
+    let before : take p (first ++ (Q ++ Z)) ≡ P = take-append-le p first (Q ++ Z) (omega (arith, long)) ∙ take-take p (p + answerRoom) b (omega arith) ∙ take-at P (Q ++ (zs ++ Z)) p hp in
+    let behind : drop answerRoom (drop p (first ++ (Q ++ Z))) ≡ Q ++ Z = drop-drop answerRoom p (first ++ (Q ++ Z)) ∙ drop-at first (Q ++ Z) (p + answerRoom) long in
+    ap (λ (l : List ℕ). putMid p answerRoom l X) whole ∙ rw (before, behind) refl
   where
     back : (a b : ℕ) → a + b - a ≡ b
     back a b = omega arith
@@ -90,28 +91,28 @@ put-moved p q P Q zs Z X hp hq hz =
 -- a slot of its own, before some and after others
 put-between : (m : ℕ) (pre post : List (List ℕ)) (x : List ℕ) →
     let n = length pre + (length post + suc m) in
-    putMid (length pre * ANSWER_ROOM) ANSWER_ROOM (movedUp (length pre * ANSWER_ROOM) (length pre * ANSWER_ROOM + length post * ANSWER_ROOM) (slotsIn n (pre ++ post))) (slotOf x) ≡ slotsIn n (pre ++ (x ∷ post))
+    putMid (length pre * answerRoom) answerRoom (movedUp (length pre * answerRoom) (length pre * answerRoom + length post * answerRoom) (slotsIn n (pre ++ post))) (slotOf x) ≡ slotsIn n (pre ++ (x ∷ post))
 put-between m pre post x =
-    ap (λ (l : List ℕ). putMid (length pre * ANSWER_ROOM) ANSWER_ROOM (movedUp (length pre * ANSWER_ROOM) (length pre * ANSWER_ROOM + length post * ANSWER_ROOM) l) (slotOf x)) start
-    ∙ put-moved (length pre * ANSWER_ROOM) (length post * ANSWER_ROOM) (slotsBytes pre) (slotsBytes post) (zeros ANSWER_ROOM) (zeros (m * ANSWER_ROOM)) (slotOf x) (slots-size pre) (slots-size post) (length-replicate {A = ℕ} ANSWER_ROOM 0)
+    ap (λ (l : List ℕ). putMid (length pre * answerRoom) answerRoom (movedUp (length pre * answerRoom) (length pre * answerRoom + length post * answerRoom) l) (slotOf x)) start
+    ∙ put-moved (length pre * answerRoom) (length post * answerRoom) (slotsBytes pre) (slotsBytes post) (zeros answerRoom) (zeros (m * answerRoom)) (slotOf x) (slots-size pre) (slots-size post) (length-replicate {A = ℕ} answerRoom 0)
     ∙ sym end
   where
-    tail : (k : ℕ) → slotsIn (length post + k) post ≡ slotsBytes post ++ zeros (k * ANSWER_ROOM)
+    tail : (k : ℕ) → slotsIn (length post + k) post ≡ slotsBytes post ++ zeros (k * answerRoom)
     tail k = ap (slotsIn (length post + k)) (sym (append-nil post)) ∙ slots-append k post [] ∙ ap (λ l. slotsBytes post ++ l) (slots-none k)
 
-    one-more : (k : ℕ) → suc k * ANSWER_ROOM ≡ ANSWER_ROOM + k * ANSWER_ROOM
+    one-more : (k : ℕ) → suc k * answerRoom ≡ answerRoom + k * answerRoom
     one-more k = omega arith
 
-    zeros-more : zeros (suc m * ANSWER_ROOM) ≡ zeros ANSWER_ROOM ++ zeros (m * ANSWER_ROOM)
-    zeros-more = ap zeros (one-more m) ∙ sym (replicate-append-replicate {A = ℕ} ANSWER_ROOM (m * ANSWER_ROOM) 0)
+    zeros-more : zeros (suc m * answerRoom) ≡ zeros answerRoom ++ zeros (m * answerRoom)
+    zeros-more = ap zeros (one-more m) ∙ sym (replicate-append-replicate {A = ℕ} answerRoom (m * answerRoom) 0)
 
-    start : slotsIn (length pre + (length post + suc m)) (pre ++ post) ≡ slotsBytes pre ++ (slotsBytes post ++ (zeros ANSWER_ROOM ++ zeros (m * ANSWER_ROOM)))
+    start : slotsIn (length pre + (length post + suc m)) (pre ++ post) ≡ slotsBytes pre ++ (slotsBytes post ++ (zeros answerRoom ++ zeros (m * answerRoom)))
     start = slots-append (length post + suc m) pre post ∙ ap (λ l. slotsBytes pre ++ l) (tail (suc m) ∙ ap (λ l. slotsBytes post ++ l) zeros-more)
 
     shift : (a b : ℕ) → a + suc b ≡ suc (a + b)
     shift a b = omega arith
 
-    end : slotsIn (length pre + (length post + suc m)) (pre ++ (x ∷ post)) ≡ slotsBytes pre ++ (slotOf x ++ (slotsBytes post ++ zeros (m * ANSWER_ROOM)))
+    end : slotsIn (length pre + (length post + suc m)) (pre ++ (x ∷ post)) ≡ slotsBytes pre ++ (slotOf x ++ (slotsBytes post ++ zeros (m * answerRoom)))
     end = ap (λ (k : ℕ). slotsIn (length pre + k) (pre ++ (x ∷ post))) (shift (length post) m) ∙ around (length post + m) pre post x ∙ ap (λ l. slotsBytes pre ++ (slotOf x ++ l)) (tail m)
 
 -- ---- where a record goes among what is held
@@ -146,19 +147,19 @@ placed-settled (c ∷ cs) new = by (placed-settled cs new) (ltb (jobOf c) (jobOf
 
 -- ---- what the code counts and reads in the bytes
 
-first-slot : (c rest : List ℕ) (w at : ℕ) → at + w ≤ ANSWER_ROOM → numberAt w (slotOf c ++ rest) at ≡ numberAt w (slotOf c) at
+first-slot : (c rest : List ℕ) (w at : ℕ) → at + w ≤ answerRoom → numberAt w (slotOf c ++ rest) at ≡ numberAt w (slotOf c) at
 first-slot c rest w at h =
-    sym (number-take w ANSWER_ROOM at (slotOf c ++ rest) h) ∙ ap (λ (l : List ℕ). numberAt w l at) (take-at (slotOf c) rest ANSWER_ROOM (padded-length ANSWER_ROOM c))
+    sym (number-take w answerRoom at (slotOf c ++ rest) h) ∙ ap (λ (l : List ℕ). numberAt w l at) (take-at (slotOf c) rest answerRoom (padded-length answerRoom c))
 
-behind-slot : (c rest : List ℕ) → drop ANSWER_ROOM (slotOf c ++ rest) ≡ rest
-behind-slot c rest = drop-at (slotOf c) rest ANSWER_ROOM (padded-length ANSWER_ROOM c)
+behind-slot : (c rest : List ℕ) → drop answerRoom (slotOf c ++ rest) ≡ rest
+behind-slot c rest = drop-at (slotOf c) rest answerRoom (padded-length answerRoom c)
 
-slots-named : (n above : ℕ) (cs : List (List ℕ)) → Rising above cs → length cs ≤ n → namedSlots n (slotsIn n cs) ≡ length cs
-unfolding namedSlots
+slots-named : (n above : ℕ) (cs : List (List ℕ)) → HeldRising above cs → length cs ≤ n → slotsBeforeFree n (slotsIn n cs) ≡ length cs
+unfolding slotsBeforeFree
 slots-named zero above [] r h = refl
 slots-named zero above (c ∷ cs) r h = absurd (omega arith)
 slots-named (suc n) above [] r h =
-    let z : valueOf LENGTH (slotsIn (suc n) []) ≡ 0 = ap (valueOf LENGTH) (slots-none (suc n)) ∙ zero-number (zeros (suc n * ANSWER_ROOM)) (zeros-zero (suc n * ANSWER_ROOM)) 4 0 in
+    let z : valueOf LENGTH (slotsIn (suc n) []) ≡ 0 = ap (valueOf LENGTH) (slots-none (suc n)) ∙ zero-number (zeros (suc n * answerRoom)) (zeros-zero (suc n * answerRoom)) 4 0 in
     rw (eq-eqb (valueOf LENGTH (slotsIn (suc n) [])) 0 z) refl
 slots-named (suc n) above (c ∷ cs) (next low held r) h =
     let rest = slotsIn n cs in
@@ -178,17 +179,17 @@ slots-below (suc n) job (c ∷ cs) h =
 nothing : {c : List ℕ} {post : List (List ℕ)} → _≡_ {A = List (List ℕ)} [] (c ∷ post) → ⊥
 nothing f = let z : _≡_ {A = ℕ} 0 1 = cc in omega arith
 
-rising-held : (above k : ℕ) (cs : List (List ℕ)) {c : List ℕ} {post : List (List ℕ)} → Rising above cs → drop k cs ≡ c ∷ post → isHeld c ≡ true
+rising-held : (above k : ℕ) (cs : List (List ℕ)) {c : List ℕ} {post : List (List ℕ)} → HeldRising above cs → drop k cs ≡ c ∷ post → isHeld c ≡ true
 rising-held above zero [] r e = absurd (nothing e)
 rising-held above zero (d ∷ ds) {c} (next low held r) e = let same : d ≡ c = cc in rw same at held
 rising-held above (suc k) [] r e = absurd (nothing e)
 rising-held above (suc k) (d ∷ ds) (next low held r) e = rising-held (jobOf d) k ds r e
 
--- ---- a record's way into a board
+-- ---- how a record goes into a board
 
 -- it is at the end of what is held, or at another job
 abbrev NotThere : List ℕ → List ℕ → ℕ → Type 0
-NotThere b new i = (namedSlots SLOTS b ≤ i) ⊎ (numberAt 4 b (i * ANSWER_ROOM + 6) ≡ jobOf new → ⊥)
+NotThere b new i = (slotsBeforeFree SLOTS b ≤ i) ⊎ (numberAt 4 b (i * answerRoom + 6) ≡ jobOf new → ⊥)
 
 -- what a call returns and leaves, as `placedOn` says
 abbrev pub Gives : List ℕ → List ℕ → Posted → List ℕ → Type 0
@@ -211,10 +212,10 @@ module _ (b new : List ℕ) (board : isBoard b ≡ true) where
   unfolding boardOf slotsIn
   bytes = board-held b board .1 .1
 
-  filled-is : namedSlots SLOTS b ≡ length cs
-  filled-is = ap (namedSlots SLOTS) bytes ∙ slots-named SLOTS 0 cs (board-held b board .0) few
+  filled-is : slotsBeforeFree SLOTS b ≡ length cs
+  filled-is = ap (slotsBeforeFree SLOTS) bytes ∙ slots-named SLOTS 0 cs (board-held b board .0) few
 
-  place-is : slotsBelow (namedSlots SLOTS b) (jobOf new) b ≡ place
+  place-is : slotsBelow (slotsBeforeFree SLOTS b) (jobOf new) b ≡ place
   place-is = ap (λ (n : ℕ). slotsBelow n (jobOf new) b) filled-is ∙ ap (slotsBelow (length cs) (jobOf new)) bytes ∙ slots-below SLOTS (jobOf new) cs few
 
   pre-size : length pre ≡ place
@@ -238,37 +239,37 @@ module _ (b new : List ℕ) (board : isBoard b ≡ true) where
     shown : b ≡ slotsIn (length pre + suc (SLOTS - suc place)) (pre ++ (c ∷ post))
     shown = bytes ∙ ap (slotsIn SLOTS) these ∙ ap (λ (n : ℕ). slotsIn n (pre ++ (c ∷ post))) free
 
-    here : midOf (place * ANSWER_ROOM) ANSWER_ROOM b ≡ slotOf c
+    here : midOf (place * answerRoom) answerRoom b ≡ slotOf c
     here =
-        ap (λ (n : ℕ). midOf (n * ANSWER_ROOM) ANSWER_ROOM b) (sym pre-size)
-        ∙ ap (midOf (length pre * ANSWER_ROOM) ANSWER_ROOM) shown
+        ap (λ (n : ℕ). midOf (n * answerRoom) answerRoom b) (sym pre-size)
+        ∙ ap (midOf (length pre * answerRoom) answerRoom) shown
         ∙ the-slot (SLOTS - suc place) pre post c
 
-    job-here : numberAt 4 b (place * ANSWER_ROOM + 6) ≡ jobOf c
+    job-here : numberAt 4 b (place * answerRoom + 6) ≡ jobOf c
     job-here =
-        sym (number-drop 4 (place * ANSWER_ROOM) 6 b)
-        ∙ sym (number-take 4 ANSWER_ROOM 6 (drop (place * ANSWER_ROOM) b) (omega arith))
+        sym (number-drop 4 (place * answerRoom) 6 b)
+        ∙ sym (number-take 4 answerRoom 6 (drop (place * answerRoom) b) (omega arith))
         ∙ ap jobOf here
         ∙ slot-job c
 
-    put-here : (x : List ℕ) → putMid (place * ANSWER_ROOM) ANSWER_ROOM b (slotOf x) ≡ boardOf (pre ++ (x ∷ post))
+    put-here : (x : List ℕ) → putMid (place * answerRoom) answerRoom b (slotOf x) ≡ boardOf (pre ++ (x ∷ post))
     unfolding boardOf slotsIn
     put-here x =
-        ap (λ (n : ℕ). putMid (n * ANSWER_ROOM) ANSWER_ROOM b (slotOf x)) (sym pre-size)
-        ∙ ap (λ (l : List ℕ). putMid (length pre * ANSWER_ROOM) ANSWER_ROOM l (slotOf x)) shown
+        ap (λ (n : ℕ). putMid (n * answerRoom) answerRoom b (slotOf x)) (sym pre-size)
+        ∙ ap (λ (l : List ℕ). putMid (length pre * answerRoom) answerRoom l (slotOf x)) shown
         ∙ put-slot (SLOTS - suc place) pre post c x
         ∙ ap (λ (n : ℕ). slotsIn n (pre ++ (x ∷ post))) (sym free)
 
   -- ---- the three ways, at the place that the code finds
-  module _ (i : ℕ) (at : i ≡ slotsBelow (namedSlots SLOTS b) (jobOf new) b) where
+  module _ (i : ℕ) (at : i ≡ slotsBelow (slotsBeforeFree SLOTS b) (jobOf new) b) where
     found : i ≡ place
     found = at ∙ place-is
 
     pub record JoinsHere : Type 0 where
-      pub ready : midOf (i * ANSWER_ROOM) ANSWER_ROOM b ≡ slotOf (contentOf (midOf (i * ANSWER_ROOM) ANSWER_ROOM b))
-      pub done : (s : List ℕ) → s ≡ slotOf (joined (contentOf (midOf (i * ANSWER_ROOM) ANSWER_ROOM b)) new) → Gives b new Taken (putMid (i * ANSWER_ROOM) ANSWER_ROOM b s)
+      pub ready : midOf (i * answerRoom) answerRoom b ≡ slotOf (contentOf (midOf (i * answerRoom) answerRoom b))
+      pub done : (s : List ℕ) → s ≡ slotOf (joined (contentOf (midOf (i * answerRoom) answerRoom b)) new) → Gives b new Taken (putMid (i * answerRoom) answerRoom b s)
 
-    enters-slot : i < namedSlots SLOTS b → numberAt 4 b (i * ANSWER_ROOM + 6) ≡ jobOf new → JoinsHere
+    enters-slot : i < slotsBeforeFree SLOTS b → numberAt 4 b (i * answerRoom + 6) ≡ jobOf new → JoinsHere
     unfolding settled
     enters-slot low same = by (drop place cs) refl
       where
@@ -276,9 +277,9 @@ module _ (b new : List ℕ) (board : isBoard b ≡ true) where
         by [] e = absurd (omega (arith, length-drop place cs, ap length e, found, low, filled-is))
         by (c ∷ post) e =
             let held : isHeld c ≡ true = rising-held 0 place cs (board-held b board .0) e in
-            let slot : midOf (i * ANSWER_ROOM) ANSWER_ROOM b ≡ slotOf c = ap (λ (n : ℕ). midOf (n * ANSWER_ROOM) ANSWER_ROOM b) found ∙ here c post e in
-            let content : contentOf (midOf (i * ANSWER_ROOM) ANSWER_ROOM b) ≡ c = ap contentOf slot ∙ content-back c held in
-            let its : jobOf c ≡ jobOf new = sym (job-here c post e) ∙ ap (λ (n : ℕ). numberAt 4 b (n * ANSWER_ROOM + 6)) (sym found) ∙ same in
+            let slot : midOf (i * answerRoom) answerRoom b ≡ slotOf c = ap (λ (n : ℕ). midOf (n * answerRoom) answerRoom b) found ∙ here c post e in
+            let content : contentOf (midOf (i * answerRoom) answerRoom b) ≡ c = ap contentOf slot ∙ content-back c held in
+            let its : jobOf c ≡ jobOf new = sym (job-here c post e) ∙ ap (λ (n : ℕ). numberAt 4 b (n * answerRoom + 6)) (sym found) ∙ same in
             let whole : placed cs new ≡ pre ++ (joined c new ∷ post) = placed-settled cs new ∙ rw (e, eq-eqb (jobOf c) (jobOf new) its) refl in
             let size : length (pre ++ (joined c new ∷ post)) ≤ SLOTS = omega (arith, length-append pre (joined c new ∷ post), pre-size, after c post e, few) in
             let go = taken (pre ++ (joined c new ∷ post)) whole size in
@@ -286,8 +287,8 @@ module _ (b new : List ℕ) (board : isBoard b ≡ true) where
               ready = slot ∙ ap slotOf (sym content);
               done = λ s f. (
                 go .0,
-                ap (λ (l : List ℕ). putMid (i * ANSWER_ROOM) ANSWER_ROOM b l) (f ∙ ap (λ (x : List ℕ). slotOf (joined x new)) content)
-                    ∙ ap (λ (n : ℕ). putMid (n * ANSWER_ROOM) ANSWER_ROOM b (slotOf (joined c new))) found
+                ap (λ (l : List ℕ). putMid (i * answerRoom) answerRoom b l) (f ∙ ap (λ (x : List ℕ). slotOf (joined x new)) content)
+                    ∙ ap (λ (n : ℕ). putMid (n * answerRoom) answerRoom b (slotOf (joined c new))) found
                     ∙ put-here c post e (joined c new)
                     ∙ go .1,
               );
@@ -303,7 +304,7 @@ module _ (b new : List ℕ) (board : isBoard b ≡ true) where
           where
             other : NotThere b new i → jobOf c ≡ jobOf new → ⊥
             other (inl low) f = omega (arith, after c post e, found, low, filled-is)
-            other (inr differs) f = differs (ap (λ (n : ℕ). numberAt 4 b (n * ANSWER_ROOM + 6)) found ∙ job-here c post e ∙ f)
+            other (inr differs) f = differs (ap (λ (n : ℕ). numberAt 4 b (n * answerRoom + 6)) found ∙ job-here c post e ∙ f)
 
     whole : NotThere b new i → placed cs new ≡ pre ++ (new ∷ drop place cs)
     whole h = placed-settled cs new ∙ ap (λ l. pre ++ l) (not-there h)
@@ -314,65 +315,65 @@ module _ (b new : List ℕ) (board : isBoard b ≡ true) where
     one-more : length (pre ++ (new ∷ drop place cs)) ≡ suc (length cs)
     one-more = length-append pre (new ∷ drop place cs) ∙ omega (arith, pre-size, post-size, below-le cs (jobOf new))
 
-    enters-none : NotThere b new i → namedSlots SLOTS b ≡ SLOTS → Gives b new (Refused 3) b
+    enters-none : NotThere b new i → slotsBeforeFree SLOTS b ≡ SLOTS → Gives b new (Refused 3) b
     unfolding placedOn
     enters-none h full = rw (whole h, lt-ltb SLOTS (length (pre ++ (new ∷ drop place cs))) (omega (arith, one-more, filled-is, full))) (refl, refl)
 
-    enters-new : NotThere b new i → namedSlots SLOTS b < SLOTS → Gives b new Taken (putMid (i * ANSWER_ROOM) ANSWER_ROOM (movedUp (i * ANSWER_ROOM) (namedSlots SLOTS b * ANSWER_ROOM) b) (slotOf new))
+    enters-new : NotThere b new i → slotsBeforeFree SLOTS b < SLOTS → Gives b new Taken (putMid (i * answerRoom) answerRoom (movedUp (i * answerRoom) (slotsBeforeFree SLOTS b * answerRoom) b) (slotOf new))
     unfolding boardOf slotsIn
     enters-new h room =
         let post = drop place cs in
         let m = SLOTS - suc (length cs) in
         let total : SLOTS ≡ length pre + (length post + suc m) = omega (arith, pre-size, post-size, below-le cs (jobOf new), filled-is, room) in
-        let from : i * ANSWER_ROOM ≡ length pre * ANSWER_ROOM = ap (λ (n : ℕ). n * ANSWER_ROOM) (found ∙ sym pre-size) in
-        let sum : namedSlots SLOTS b ≡ length pre + length post = omega (arith, pre-size, post-size, below-le cs (jobOf new), filled-is) in
-        let to : namedSlots SLOTS b * ANSWER_ROOM ≡ length pre * ANSWER_ROOM + length post * ANSWER_ROOM = ap (λ (n : ℕ). n * ANSWER_ROOM) sum ∙ times (length pre) (length post) in
+        let from : i * answerRoom ≡ length pre * answerRoom = ap (λ (n : ℕ). n * answerRoom) (found ∙ sym pre-size) in
+        let sum : slotsBeforeFree SLOTS b ≡ length pre + length post = omega (arith, pre-size, post-size, below-le cs (jobOf new), filled-is) in
+        let to : slotsBeforeFree SLOTS b * answerRoom ≡ length pre * answerRoom + length post * answerRoom = ap (λ (n : ℕ). n * answerRoom) sum ∙ times (length pre) (length post) in
         let shown : b ≡ slotsIn (length pre + (length post + suc m)) (pre ++ post) = bytes ∙ ap (slotsIn SLOTS) (sym (take-append-drop place cs)) ∙ ap (λ (n : ℕ). slotsIn n (pre ++ post)) total in
         let go = taken (pre ++ (new ∷ post)) (whole h) (omega (arith, one-more, filled-is, room)) in (
           go .0,
-          ap (λ (n : ℕ). putMid n ANSWER_ROOM (movedUp n (namedSlots SLOTS b * ANSWER_ROOM) b) (slotOf new)) from
-              ∙ ap (λ (n : ℕ). putMid (length pre * ANSWER_ROOM) ANSWER_ROOM (movedUp (length pre * ANSWER_ROOM) n b) (slotOf new)) to
-              ∙ ap (λ (l : List ℕ). putMid (length pre * ANSWER_ROOM) ANSWER_ROOM (movedUp (length pre * ANSWER_ROOM) (length pre * ANSWER_ROOM + length post * ANSWER_ROOM) l) (slotOf new)) shown
+          ap (λ (n : ℕ). putMid n answerRoom (movedUp n (slotsBeforeFree SLOTS b * answerRoom) b) (slotOf new)) from
+              ∙ ap (λ (n : ℕ). putMid (length pre * answerRoom) answerRoom (movedUp (length pre * answerRoom) n b) (slotOf new)) to
+              ∙ ap (λ (l : List ℕ). putMid (length pre * answerRoom) answerRoom (movedUp (length pre * answerRoom) (length pre * answerRoom + length post * answerRoom) l) (slotOf new)) shown
               ∙ put-between m pre post new
               ∙ ap (λ (n : ℕ). slotsIn n (pre ++ (new ∷ post))) (sym total)
               ∙ go .1,
         )
       where
-        times : (x y : ℕ) → (x + y) * ANSWER_ROOM ≡ x * ANSWER_ROOM + y * ANSWER_ROOM
+        times : (x y : ℕ) → (x + y) * answerRoom ≡ x * answerRoom + y * answerRoom
         times x y = omega arith
 
-pub board-size : (b : List ℕ) → isBoard b ≡ true → length b ≡ BOARD_SIZE
+pub board-size : (b : List ℕ) → isBoard b ≡ true → length b ≡ boardSize
 unfolding isBoard
-board-size b h = eqb-true (length b) BOARD_SIZE (both (eqb (length b) BOARD_SIZE) (inOrder SLOTS 0 b) h .0)
+board-size b h = eqb-true (length b) boardSize (both (eqb (length b) boardSize) (inOrder SLOTS 0 b) h .0)
 
--- what each way leads to
+-- what each route leads to
 pub record JoinsAt (b new : List ℕ) (from : ℕ) : Type 0 where
-  pub fits : from + ANSWER_ROOM ≤ BOARD_SIZE
-  pub ready : midOf from ANSWER_ROOM b ≡ slotOf (contentOf (midOf from ANSWER_ROOM b))
-  pub done : (s : List ℕ) → s ≡ slotOf (joined (contentOf (midOf from ANSWER_ROOM b)) new) → Gives b new Taken (putMid from ANSWER_ROOM b s)
+  pub fits : from + answerRoom ≤ boardSize
+  pub ready : midOf from answerRoom b ≡ slotOf (contentOf (midOf from answerRoom b))
+  pub done : (s : List ℕ) → s ≡ slotOf (joined (contentOf (midOf from answerRoom b)) new) → Gives b new Taken (putMid from answerRoom b s)
 
 pub record EntersAt (b new : List ℕ) (from end : ℕ) : Type 0 where
   pub rising : from ≤ end
-  pub fits : end + ANSWER_ROOM ≤ BOARD_SIZE
-  pub done : Gives b new Taken (putMid from ANSWER_ROOM (movedUp from end b) (slotOf new))
+  pub fits : end + answerRoom ≤ boardSize
+  pub done : Gives b new Taken (putMid from answerRoom (movedUp from end b) (slotOf new))
 
-abbrev pub Goes : List ℕ → List ℕ → Way → Type 0
+abbrev pub Goes : List ℕ → List ℕ → Route → Type 0
 Goes b new (Joins from) = JoinsAt b new from
 Goes b new (Enters from end) = EntersAt b new from end
-Goes b new NoSlot = Gives b new (Refused 3) b
+Goes b new NoneFree = Gives b new (Refused 3) b
 
-pub goes : (b new : List ℕ) → isBoard b ≡ true → Goes b new (wayOf b (jobOf new))
-unfolding wayOf
+pub goes : (b new : List ℕ) → isBoard b ≡ true → Goes b new (routeOf b (jobOf new))
+unfolding routeOf
 goes b new board = by (ltb i n) (eqb here (jobOf new)) (eqb n SLOTS) refl refl refl
   where
     n : ℕ
-    n = namedSlots SLOTS b
+    n = slotsBeforeFree SLOTS b
 
     i : ℕ
     i = slotsBelow n (jobOf new) b
 
     here : ℕ
-    here = numberAt 4 b (i * ANSWER_ROOM + 6)
+    here = numberAt 4 b (i * answerRoom + 6)
 
     within : i ≤ n
     within = omega (arith, place-is b new board, below-le (heldOn b) (jobOf new), filled-is b new board)
@@ -380,7 +381,7 @@ goes b new board = by (ltb i n) (eqb here (jobOf new)) (eqb n SLOTS) refl refl r
     most : n ≤ SLOTS
     most = omega (arith, filled-is b new board, few b new board)
 
-    beyond : NotThere b new i → (t : Bool) → eqb n SLOTS ≡ t → Goes b new (cond t NoSlot (Enters (i * ANSWER_ROOM) (n * ANSWER_ROOM)))
+    beyond : NotThere b new i → (t : Bool) → eqb n SLOTS ≡ t → Goes b new (cond t NoneFree (Enters (i * answerRoom) (n * answerRoom)))
     beyond h true full = enters-none b new board i refl h (eqb-true n SLOTS full)
     beyond h false free = record {
       rising = omega (arith, within);
@@ -389,7 +390,7 @@ goes b new board = by (ltb i n) (eqb here (jobOf new)) (eqb n SLOTS) refl refl r
     }
 
     by : (low same full : Bool) → ltb i n ≡ low → eqb here (jobOf new) ≡ same → eqb n SLOTS ≡ full →
-        Goes b new (cond (low && same) (Joins (i * ANSWER_ROOM)) (cond full NoSlot (Enters (i * ANSWER_ROOM) (n * ANSWER_ROOM))))
+        Goes b new (cond (low && same) (Joins (i * answerRoom)) (cond full NoneFree (Enters (i * answerRoom) (n * answerRoom))))
     by true true full l s f =
         let slot = enters-slot b new board i refl (ltb-true i n l) (eqb-true here (jobOf new) s) in
         record { fits = omega (arith, most, ltb-true i n l); ready = slot .ready; done = slot .done }

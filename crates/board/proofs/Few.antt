@@ -1,4 +1,4 @@
--- Rising records whose jobs all stand in a list are no more than it (`few`): by taking the job of the first one out of the list, since every later one has another.
+-- HeldRising records whose jobs all stand in a list are no more than it (`few`): by taking the job of the first one out of the list, since every later one has another.
 use mathlib.Core.Path.{_≡_, refl, sym, ap, _∙_}
 use mathlib.Core.List.{List, _∷_, List·Memᴰ, List·Memᴰ·head as here, List·Memᴰ·tail as there, List·Memᴰ·cases-cons as in-first}
 use mathlib.Core.Logic.{⊎-elim}
@@ -6,8 +6,7 @@ use Prim.Native.Nat.{ℕ, suc, _≤_}
 use native.Mathlib.Omega.{arith}
 use lib.ListN.{length}
 use Rattle.outcomes.specs.Outcomes.{jobOf}
-use Rattle.board.specs.Messages.{_∈_}
-use Rattle.board.proofs.Boards.{Rising, none, next}
+use Rattle.board.specs.Messages.{_∈_, HeldRising, none, next}
 use Rattle.board.proofs.Placing.{above-all}
 
 -- a list with one number less, which still has every other
@@ -17,7 +16,7 @@ without (there {x} m) =
     let less = without m in
     (x ∷ less .0, (ap suc (less .1 .0), λ k n apart. ⊎-elim here (λ o. there (less .1 .1 k o apart)) (in-first n)))
 
-pub few : {above : ℕ} {cs : List (List ℕ)} → Rising above cs → (js : List ℕ) → ((c : List ℕ) → c ∈ cs → List·Memᴰ (jobOf c) js) → length cs ≤ length js
+pub few : {above : ℕ} {cs : List (List ℕ)} → HeldRising above cs → (js : List ℕ) → ((c : List ℕ) → c ∈ cs → List·Memᴰ (jobOf c) js) → length cs ≤ length js
 few none js named = omega arith
 few (next {c} l h r) js named =
     let less = without (named c (here refl)) in

@@ -8,12 +8,11 @@ use native.Mathlib.Omega.{arith}
 use Rattle.outcomes.specs.Outcomes.{jobOf, revisionOf, isOutcome}
 use Rattle.slots.specs.Slots.{conflictBytes}
 use Rattle.board.specs.Board.{joined, placed}
-use Rattle.board.specs.Messages.{_∈_, AreBytes, AllBytes, Counts, CameFor, OneRecord, InConflict, TwoDiffer, Holds}
+use Rattle.board.specs.Messages.{_∈_, AreBytes, AllBytes, Counts, CameFor, OneRecord, InConflict, TwoDiffer, Holds, HeldRising, SomeOf}
 use Rattle.slots.proofs.Conflicts.{conflict-revision, conflict-no-outcome}
 use Rattle.slots.proofs.Held.{outcome-held}
-use Rattle.board.proofs.Boards.{Rising}
 use Rattle.board.proofs.Joining.{small-revision, Joining, newer, older, again, clash, joining, joined-job}
-use Rattle.board.proofs.Placing.{SomeOf, placing, placed-rising, Comes, kept, first, met, comes, stays, arrives}
+use Rattle.board.proofs.Placing.{placing, placed-rising, Comes, kept, first, met, comes, stays, arrives}
 
 -- no test is both passed and failed
 pub never : {P : Type 0} {t : Bool} → t ≡ true → t ≡ false → P
@@ -117,7 +116,7 @@ module _ {seen : List (List ℕ)} {m : List ℕ} where
 
 -- rising records, each what its job's messages say, and one for each job of a message that counts
 pub record Keeps (seen held : List (List ℕ)) : Type 0 where
-  pub rising : Rising 0 held
+  pub rising : HeldRising 0 held
   pub holds : (c : List ℕ) → c ∈ held → Holds seen (jobOf c) c
   pub each : (m : List ℕ) → m ∈ seen → Counts m → SomeOf (jobOf m) held
 

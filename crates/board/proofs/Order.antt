@@ -7,8 +7,8 @@ use native.Mathlib.Omega.{arith}
 use Rattle.outcomes.specs.Outcomes.{jobOf, revisionOf}
 use Rattle.slots.specs.Slots.{conflictBytes}
 use Rattle.board.specs.Board.{heldOn, boardOf, emptyBoard}
-use Rattle.board.specs.Messages.{postAll, _∈_, SameMessages, AllBytes, OverFewJobs, Holds, After}
-use Rattle.board.proofs.Boards.{Rising, none, next, board-held}
+use Rattle.board.specs.Messages.{postAll, _∈_, SameMessages, AllBytes, OverFewJobs, Holds, After, HeldRising, none, next}
+use Rattle.board.proofs.Boards.{board-held}
 use Rattle.board.proofs.Placing.{above-all}
 use Rattle.board.proofs.Keeping.{some-came, not-one}
 use Rattle.board.proofs.Standing.{stands, stands-for}
@@ -23,7 +23,7 @@ one-held {job} (inr o) (inr p) =
     let e : o .revision ≡ p .revision = omega (arith, s .highest (t .one) (t .one-came), t .one-at, t .highest (s .one) (s .one-came), s .one-at) in
     o .conflict ∙ ap (conflictBytes job) e ∙ sym (p .conflict)
 
-pub one-list : {a b : ℕ} {cs ds : List (List ℕ)} → Rising a cs → Rising b ds → ((c : List ℕ) → c ∈ cs → c ∈ ds) → ((c : List ℕ) → c ∈ ds → c ∈ cs) → cs ≡ ds
+pub one-list : {a b : ℕ} {cs ds : List (List ℕ)} → HeldRising a cs → HeldRising b ds → ((c : List ℕ) → c ∈ cs → c ∈ ds) → ((c : List ℕ) → c ∈ ds → c ∈ cs) → cs ≡ ds
 one-list none none forth back = refl
 one-list none (next {c} l h r) forth back = absurd (in-none (back c (here refl)))
 one-list (next {c} l h r) none forth back = absurd (in-none (forth c (here refl)))

@@ -11,8 +11,7 @@ use lib.ListN.{length}
 use Rattle.outcomes.specs.Outcomes.{jobOf}
 use Rattle.slots.specs.Slots.{isHeld}
 use Rattle.board.specs.Board.{joined, placed}
-use Rattle.board.specs.Messages.{_∈_, AreBytes}
-use Rattle.board.proofs.Boards.{Rising, none, next}
+use Rattle.board.specs.Messages.{_∈_, AreBytes, HeldRising, none, next, SomeOf, NoneOf}
 use Rattle.board.proofs.Joining.{joining, joined-job, joined-held, joined-self, joined-again}
 
 pub data Placing (new : List ℕ) : List (List ℕ) → List (List ℕ) → Type 0 where
@@ -36,18 +35,11 @@ placing (c ∷ cs) new = by (ltb (jobOf c) (jobOf new)) refl (eqb (jobOf c) (job
 
 -- ---- rising records
 
-pub above-all : {above : ℕ} {cs : List (List ℕ)} {c : List ℕ} → Rising above cs → c ∈ cs → above < jobOf c
+pub above-all : {above : ℕ} {cs : List (List ℕ)} {c : List ℕ} → HeldRising above cs → c ∈ cs → above < jobOf c
 above-all none m = absurd (in-none m)
 above-all (next l h r) m = ⊎-elim (λ e. omega (arith, ap jobOf e)) (λ n. omega (arith, above-all r n)) (in-first m)
 
--- some record is of a job, and none is
-abbrev pub SomeOf : ℕ → List (List ℕ) → Type 0
-SomeOf job cs = (c : List ℕ) × ((c ∈ cs) × (jobOf c ≡ job))
-
-abbrev pub NoneOf : ℕ → List (List ℕ) → Type 0
-NoneOf job cs = (c : List ℕ) → c ∈ cs → jobOf c ≡ job → ⊥
-
-none-below : {above : ℕ} {cs : List (List ℕ)} → Rising above cs → NoneOf above cs
+none-below : {above : ℕ} {cs : List (List ℕ)} → HeldRising above cs → NoneOf above cs
 none-below r c m e = omega (arith, above-all r m)
 
 none-first : {job : ℕ} {c : List ℕ} {cs : List (List ℕ)} → (jobOf c ≡ job → ⊥) → NoneOf job cs → NoneOf job (c ∷ cs)
@@ -56,7 +48,7 @@ none-first f g d m e = ⊎-elim (λ s. f (sym (ap jobOf s) ∙ e)) (λ n. g d n 
 some-later : {job : ℕ} {c : List ℕ} {cs : List (List ℕ)} → SomeOf job cs → SomeOf job (c ∷ cs)
 some-later s = (s .0, (there (s .1 .0), s .1 .1))
 
-pub placed-rising : {new : List ℕ} {above : ℕ} {cs ds : List (List ℕ)} → Placing new cs ds → AreBytes new → isHeld new ≡ true → above < jobOf new → Rising above cs → Rising above ds
+pub placed-rising : {new : List ℕ} {above : ℕ} {cs ds : List (List ℕ)} → Placing new cs ds → AreBytes new → isHeld new ≡ true → above < jobOf new → HeldRising above cs → HeldRising above ds
 placed-rising last bytes h l none = next l h none
 placed-rising (before k) bytes h l (next low held r) = next l h (next k held r)
 placed-rising {new} (meets {c} e) bytes h l (next low held r) =
@@ -71,7 +63,7 @@ pub data Comes (new : List ℕ) (cs : List (List ℕ)) (c : List ℕ) : Type 0 w
   first : NoneOf (jobOf new) cs → c ≡ new → Comes new cs c
   met : {d : List ℕ} → d ∈ cs → jobOf d ≡ jobOf new → c ≡ joined d new → Comes new cs c
 
-pub comes : {new : List ℕ} {above : ℕ} {cs ds : List (List ℕ)} {c : List ℕ} → Placing new cs ds → Rising above cs → c ∈ ds → Comes new cs c
+pub comes : {new : List ℕ} {above : ℕ} {cs ds : List (List ℕ)} {c : List ℕ} → Placing new cs ds → HeldRising above cs → c ∈ ds → Comes new cs c
 comes last none m = ⊎-elim (first (λ d n e. in-none n)) (λ n. absurd (in-none n)) (in-first m)
 comes {c} (before k) (next low held r) m =
     let apart = none-below (next k held r) in
@@ -103,7 +95,7 @@ arrives (after k p) bytes = some-later (arrives p bytes)
 abbrev pub Grown : ℕ → List (List ℕ) → List (List ℕ) → Type 0
 Grown job cs ds = (NoneOf job cs × (length ds ≡ suc (length cs))) ⊎ (SomeOf job cs × (length ds ≡ length cs))
 
-pub grown : {new : List ℕ} {above : ℕ} {cs ds : List (List ℕ)} → Placing new cs ds → Rising above cs → Grown (jobOf new) cs ds
+pub grown : {new : List ℕ} {above : ℕ} {cs ds : List (List ℕ)} → Placing new cs ds → HeldRising above cs → Grown (jobOf new) cs ds
 grown last none = inl (λ d n e. in-none n, refl)
 grown (before k) (next low held r) = inl (none-below (next k held r), refl)
 grown (meets {c} e) (next low held r) = inr ((c, (here refl, e)), refl)

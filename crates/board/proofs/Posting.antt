@@ -10,12 +10,11 @@ use lib.Dec.{ltb, eqb}
 use lib.ListN.{length}
 use Rattle.outcomes.specs.Outcomes.{jobOf, isOutcome}
 use Rattle.board.specs.declared.Posted.the-variants.{Taken, Refused}
-use Rattle.board.specs.Board.{SLOTS, isBoard, heldOn, boardOf, emptyBoard, placed, Result, refused, postOf}
-use Rattle.board.specs.Internals.{placedOn}
-use Rattle.board.specs.Messages.{AreBytes, AllBytes, Counts, postAll}
+use Rattle.board.specs.Board.{SLOTS, isBoard, heldOn, boardOf, emptyBoard, placed, Result, refused, postOf, placedOn}
+use Rattle.board.specs.Messages.{AreBytes, AllBytes, Counts, postAll, none, NoneOf}
 use Rattle.slots.proofs.Held.{outcome-held}
-use Rattle.board.proofs.Boards.{none, board-held, held-board, empty-board}
-use Rattle.board.proofs.Placing.{NoneOf, placing, placed-rising, placed-again, grown}
+use Rattle.board.proofs.Boards.{board-held, held-board, empty-board}
+use Rattle.board.proofs.Placing.{placing, placed-rising, placed-again, grown}
 
 -- what `postOf` gives where it takes the record
 abbrev pub taking : List ℕ → List ℕ → Result
@@ -30,7 +29,7 @@ pub data Posting (b new : List ℕ) : Result → Type 0 where
 
 module _ (b new : List ℕ) where
   pub posting : Posting b new (postOf b new)
-  unfolding postOf
+  unfolding postOf placedOn
   posting = by (isBoard b) refl (isOutcome new) refl (eqb (jobOf new) 0) refl (ltb SLOTS (length (placed (heldOn b) new))) refl
     where
       counted : isOutcome new ≡ true → eqb (jobOf new) 0 ≡ false → Counts new

@@ -8,8 +8,8 @@ use native.Mathlib.Omega.{arith}
 use lib.ListN.{length}
 use Rattle.outcomes.specs.Outcomes.{jobOf}
 use Rattle.board.specs.Board.{SLOTS, isBoard, heldOn, placed, emptyBoard, Result, postOf}
-use Rattle.board.specs.Messages.{postAll, _∈_, SameMessages, AreBytes, AllBytes, Counts, OverFewJobs, After}
-use Rattle.board.proofs.Boards.{none, board-held}
+use Rattle.board.specs.Messages.{postAll, _∈_, SameMessages, AreBytes, AllBytes, Counts, OverFewJobs, After, none}
+use Rattle.board.proofs.Boards.{board-held}
 use Rattle.board.proofs.Posting.{Posting, no-board, malformed, unnamed, full, taken, posting, taken-board, starts-board}
 use Rattle.board.proofs.Few.{few}
 use Rattle.board.proofs.Keeping.{never, some-came, Keeps, keeps-same, keeps-more}

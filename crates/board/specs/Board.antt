@@ -4,7 +4,7 @@ use mathlib.Core.Bool.{Bool, true, cond, not, _&&_, _||_}
 use mathlib.Core.List.{List, [], _∷_, _++_}
 use lib.Dec.{eqb, ltb}
 use lib.ListN.{length, take, drop, replicate}
-use Rattle.records.specs.Layout.{ANSWER_ROOM}
+use Rattle.records.specs.Layout.{answerRoom}
 use Rattle.outcomes.specs.Outcomes.{jobOf, revisionOf, isOutcome}
 use Rattle.slots.specs.Slots.{padded, slotOf, contentOf, conflictBytes, isZero, isFilled, sameBytes}
 use Rattle.board.specs.declared.Posted.{Posted}
@@ -12,28 +12,28 @@ use Rattle.board.specs.declared.Posted.the-variants.{Taken, Refused}
 
 -- ---- the bytes of a board
 
--- how many slots a board has, each with room for the longest answer
+-- how many slots a board has, each with room for the longest answer, and its size: 33,792 bytes
 abbrev pub SLOTS : ℕ
 SLOTS = 64
 
-abbrev pub BOARD_SIZE : ℕ
-BOARD_SIZE = SLOTS * ANSWER_ROOM
+abbrev pub boardSize : ℕ
+boardSize = SLOTS * answerRoom
 
 -- whether n slots stand as they must: filled ones in rising job number, above a job, and then free ones, all zeros
 unfoldable pub inOrder : ℕ → ℕ → List ℕ → Bool
 inOrder zero above b = true
 inOrder (suc n) above b =
-    let slot = take ANSWER_ROOM b in
-    isZero b || (isFilled slot && ltb above (jobOf slot) && inOrder n (jobOf slot) (drop ANSWER_ROOM b))
+    let slot = take answerRoom b in
+    isZero b || (isFilled slot && ltb above (jobOf slot) && inOrder n (jobOf slot) (drop answerRoom b))
 
 -- 64 slots in order, none of job 0
 unfoldable pub isBoard : List ℕ → Bool
-isBoard b = eqb (length b) BOARD_SIZE && inOrder SLOTS 0 b
+isBoard b = eqb (length b) boardSize && inOrder SLOTS 0 b
 
--- what the filled ones of n slots hold
+-- what the filled ones of n slots of a board hold
 unfoldable pub heldIn : ℕ → List ℕ → List (List ℕ)
 heldIn zero b = []
-heldIn (suc n) b = cond (isZero b) [] (contentOf (take ANSWER_ROOM b) ∷ heldIn n (drop ANSWER_ROOM b))
+heldIn (suc n) b = cond (isZero b) [] (contentOf (take answerRoom b) ∷ heldIn n (drop answerRoom b))
 
 abbrev pub heldOn : List ℕ → List (List ℕ)
 heldOn b = heldIn SLOTS b
@@ -44,11 +44,11 @@ slotsBytes [] = []
 slotsBytes (c ∷ cs) = slotOf c ++ slotsBytes cs
 
 unfoldable pub boardOf : List (List ℕ) → List ℕ
-boardOf held = padded BOARD_SIZE (slotsBytes held)
+boardOf held = padded boardSize (slotsBytes held)
 
 -- a board starts as all zeros
 unfoldable pub emptyBoard : List ℕ
-emptyBoard = replicate BOARD_SIZE 0
+emptyBoard = replicate boardSize 0
 
 -- ---- a record that comes in
 
@@ -75,14 +75,18 @@ pub record Result : Type 0 where
 abbrev pub refused : ℕ → List ℕ → Result
 refused number b = record { posted = Refused number; board = b }
 
--- B0: not a board; B1: a malformed record; B2: job 0; B3: no free slot for a new job
+-- a record that counts, on a board. B3: no free slot for a new job
+unfoldable pub placedOn : List ℕ → List ℕ → Result
+placedOn b new =
+    let after = placed (heldOn b) new in
+    cond (ltb SLOTS (length after)) (refused 3 b) (record { posted = Taken; board = boardOf after })
+
+-- any record, on any bytes. B0: not a board; B1: a malformed record; B2: job 0
 unfoldable pub postOf : List ℕ → List ℕ → Result
 postOf b new =
-    let held = placed (heldOn b) new in
     cond (not (isBoard b)) (refused 0 b)
     (cond (not (isOutcome new)) (refused 1 b)
-    (cond (eqb (jobOf new) 0) (refused 2 b)
-    (cond (ltb SLOTS (length held)) (refused 3 b) (record { posted = Taken; board = boardOf held }))))
+    (cond (eqb (jobOf new) 0) (refused 2 b) (placedOn b new)))
 
 -- the call's result as one number: that of the refusal, and 255 for a record that was taken
 abbrev pub numberGiven : Posted → ℕ

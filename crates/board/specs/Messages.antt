@@ -6,7 +6,7 @@ use mathlib.Core.List.{List, [], _∷_, List·Memᴰ}
 use mathlib.Core.Logic.{_⊎_}
 use lib.ListN.{length, getD}
 use Rattle.outcomes.specs.Outcomes.{jobOf, revisionOf, isOutcome}
-use Rattle.slots.specs.Slots.{conflictBytes}
+use Rattle.slots.specs.Slots.{conflictBytes, isHeld}
 use Rattle.board.specs.Board.{SLOTS, isBoard, heldOn, boardOf, postOf}
 
 -- the board after messages that come one after another
@@ -19,12 +19,24 @@ infix 20 _∈_
 abbrev pub _∈_ : List ℕ → List (List ℕ) → Type 0
 m ∈ ms = List·Memᴰ m ms
 
+-- some held bytes are of a job, and none are
+abbrev pub SomeOf : ℕ → List (List ℕ) → Type 0
+SomeOf job cs = (c : List ℕ) × ((c ∈ cs) × (jobOf c ≡ job))
+
+abbrev pub NoneOf : ℕ → List (List ℕ) → Type 0
+NoneOf job cs = (c : List ℕ) → c ∈ cs → jobOf c ≡ job → ⊥
+
+-- what may stand in slots, in rising job number above a job
+pub data HeldRising : ℕ → List (List ℕ) → Type 0 where
+  none : {above : ℕ} → HeldRising above []
+  next : {above : ℕ} {c : List ℕ} {cs : List (List ℕ)} → above < jobOf c → isHeld c ≡ true → HeldRising (jobOf c) cs → HeldRising above (c ∷ cs)
+
 -- the same messages, in any order and with any repeats
 pub record SameMessages (ms ns : List (List ℕ)) : Type 0 where
   pub there : (m : List ℕ) → m ∈ ms → m ∈ ns
   pub back : (m : List ℕ) → m ∈ ns → m ∈ ms
 
--- a message is bytes
+-- a message is bytes, as all that a slice of them holds are
 abbrev pub AreBytes : List ℕ → Type 0
 AreBytes m = (i : ℕ) → getD m i 0 < 256
 
@@ -74,9 +86,9 @@ pub record InConflict (ms : List (List ℕ)) (job : ℕ) (held : List ℕ) : Typ
 abbrev pub Holds : List (List ℕ) → ℕ → List ℕ → Type 0
 Holds ms job held = OneRecord ms job held ⊎ InConflict ms job held
 
--- a board after some messages: it is one, each slot holds what the messages for its job say, and each job of a message that counts has a slot
+-- a board after some messages: it is one (so its slots rise, one for a job), its bytes are those of what it holds, each slot holds what the messages for its job say, and each job of a message that counts has a slot
 pub record After (ms : List (List ℕ)) (b : List ℕ) : Type 0 where
   pub well-formed : isBoard b ≡ true
   pub slots : b ≡ boardOf (heldOn b)
   pub holds : (held : List ℕ) → held ∈ heldOn b → Holds ms (jobOf held) held
-  pub each-job : (m : List ℕ) → m ∈ ms → Counts m → (held : List ℕ) × ((held ∈ heldOn b) × (jobOf held ≡ jobOf m))
+  pub each-job : (m : List ℕ) → m ∈ ms → Counts m → SomeOf (jobOf m) (heldOn b)

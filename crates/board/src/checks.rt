@@ -2,8 +2,8 @@
 ghost use mathlib.Core.Path.{_≡_};
 ghost use Prim.Native.Nat.{_*_, _≤_};
 ghost use lib.ListN.{length};
-ghost use Rattle.board.specs.Board.{BOARD_SIZE, isBoard};
-ghost use Rattle.board.specs.Internals.{namedSlots, filledRising};
+ghost use Rattle.board.specs.Board.{boardSize, isBoard};
+ghost use Rattle.board.specs.Internals.{slotsBeforeFree, filledRising};
 use crate::BOARD_SIZE;
 use crate::SLOTS;
 use little_endian::u32_at;
@@ -22,8 +22,8 @@ pub(crate) fn is_board(board: &[u8]) -> bool
 
 // How many slots come before the first whose length is 0; on a board these are the filled ones.
 pub(crate) fn filled_slots(board: &[u8]) -> usize
-    requires { ⌜ length (now board) ≡ BOARD_SIZE ⌝ }
-    ensures { λ r. ⌜ (r ≤ 64) × (r ≡ namedSlots 64 (now (board .entry))) ⌝ }
+    requires { ⌜ length (now board) ≡ boardSize ⌝ }
+    ensures { λ r. ⌜ (r ≤ 64) × (r ≡ slotsBeforeFree 64 (now (board .entry))) ⌝ }
 {
     let mut n: usize = 0;
     while n < SLOTS && u32_at(board, n * ANSWER_ROOM) != 0 {
@@ -34,7 +34,7 @@ pub(crate) fn filled_slots(board: &[u8]) -> usize
 
 // Whether the first n slots are filled, in rising job number from above 0 on.
 fn are_filled(board: &[u8], n: usize) -> bool
-    requires { ⌜ (length (now board) ≡ BOARD_SIZE) × (n ≤ 64) ⌝ }
+    requires { ⌜ (length (now board) ≡ boardSize) × (n ≤ 64) ⌝ }
     ensures { λ r. ⌜ r ≡ filledRising n 0 (now (board .entry)) ⌝ }
 {
     let mut fine = true;

@@ -5,7 +5,7 @@ ghost use Rattle.board.specs.Board.{numberGiven, postOf};
 use crate::Posted;
 use crate::post;
 
-// `post`, with the number of a refusal, and 255 for a record that was taken.
+// `post`, with the number of a refusal, 0 to 3, and 255 for a record that was taken.
 #[no_mangle]
 pub extern "C" fn lambert_post(board: &mut [u8], message: &[u8]) -> u8
     ensures { λ r. ⌜ (r ≡ numberGiven (postOf (now (board .entry)) (now (message .entry)) .posted)) × (now (board .exit) ≡ postOf (now (board .entry)) (now (message .entry)) .board) ⌝ }

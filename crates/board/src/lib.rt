@@ -13,12 +13,13 @@ use checks::is_board;
 use little_endian::u32_at;
 use moves::place;
 
-// The number of slots, and the size of a board.
+// The number of slots, and the size of a board: 33,792 bytes.
 pub const SLOTS: usize = 64;
 
 pub const BOARD_SIZE: usize = SLOTS * records::ANSWER_ROOM;
 
-// What comes of a record: it is taken, or the number of a refusal B0 to B3, which changes nothing.
+// What comes of a record: it is taken, also where the board held it or a newer one already; or the number of a refusal,
+// B0 to B3, which changes nothing.
 pub enum Posted {
     Taken,
     Refused(u8),

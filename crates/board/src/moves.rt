@@ -1,14 +1,14 @@
-// A record's way into a board: its place among the slots, the slots after it moved up, and what it makes of a slot of
+// How a record goes into a board: its place among the slots, the slots after it moved up, and what it makes of a slot of
 // its own job.
 ghost use mathlib.Core.Path.{_≡_};
 ghost use mathlib.Core.Bool.{true};
 ghost use Prim.Native.Nat.{_+_, _*_, _-_, _≤_, _<_};
 ghost use lib.ListN.{length, take, drop};
 ghost use mathlib.Core.List.{_++_};
-ghost use Rattle.records.specs.Layout.{ANSWER_ROOM};
+ghost use Rattle.records.specs.Layout.{answerRoom};
 ghost use Rattle.slots.specs.Slots.{slotOf, contentOf};
-ghost use Rattle.board.specs.Board.{BOARD_SIZE, isBoard, joined};
-ghost use Rattle.board.specs.Internals.{slotsBelow, wayOf, changed, movedUp, placedOn};
+ghost use Rattle.board.specs.Board.{boardSize, isBoard, joined, placedOn};
+ghost use Rattle.board.specs.Internals.{slotsBelow, routeOf, changed, movedUp};
 use crate::Posted;
 use crate::SLOTS;
 use crate::checks::filled_slots;
@@ -17,10 +17,10 @@ use records::ANSWER_ROOM;
 
 // How a record of a job goes into a board: it joins the slot from a place on; it enters between two slots, at a place, and
 // the slots from there up to another place are moved up; or there is no slot for it.
-enum Way {
+enum Route {
     Joins(usize),
     Enters(usize, usize),
-    NoSlot,
+    NoneFree,
 }
 
 // Places a record, which is not malformed, on a board.
@@ -28,41 +28,41 @@ pub(crate) fn place(board: &mut [u8], message: &[u8]) -> Posted
     requires { ⌜ isBoard (now board) ≡ true ⌝ }
     ensures { λ r. ⌜ (r ≡ placedOn (now (board .entry)) (now (message .entry)) .posted) × (now (board .exit) ≡ placedOn (now (board .entry)) (now (message .entry)) .board) ⌝ }
 {
-    match way_of(board, u32_at(message, 6)) {
-        Way::Joins(from) => {
+    match route_of(board, u32_at(message, 6)) {
+        Route::Joins(from) => {
             let to = from + ANSWER_ROOM;
             join(&mut board[from..to], message);
             Posted::Taken
         }
-        Way::Enters(from, end) => {
+        Route::Enters(from, end) => {
             let to = from + ANSWER_ROOM;
             move_up(board, from, end);
             slots::fill(&mut board[from..to], message);
             Posted::Taken
         }
-        Way::NoSlot => Posted::Refused(3),
+        Route::NoneFree => Posted::Refused(3),
     }
 }
 
-fn way_of(board: &[u8], job: u32) -> Way
-    requires { ⌜ length (now board) ≡ BOARD_SIZE ⌝ }
-    ensures { λ r. ⌜ r ≡ wayOf (now (board .entry)) job ⌝ }
+fn route_of(board: &[u8], job: u32) -> Route
+    requires { ⌜ length (now board) ≡ boardSize ⌝ }
+    ensures { λ r. ⌜ r ≡ routeOf (now (board .entry)) job ⌝ }
 {
     let filled = filled_slots(board);
     let i = slots_below(board, filled, job);
     let from = i * ANSWER_ROOM;
     if (i < filled) & (u32_at(board, from + 6) == job) {
-        return Way::Joins(from);
+        return Route::Joins(from);
     }
     if filled == SLOTS {
-        return Way::NoSlot;
+        return Route::NoneFree;
     }
-    Way::Enters(from, filled * ANSWER_ROOM)
+    Route::Enters(from, filled * ANSWER_ROOM)
 }
 
 // How many of the first n slots come before a job.
 fn slots_below(board: &[u8], n: usize, job: u32) -> usize
-    requires { ⌜ (length (now board) ≡ BOARD_SIZE) × (n ≤ 64) ⌝ }
+    requires { ⌜ (length (now board) ≡ boardSize) × (n ≤ 64) ⌝ }
     ensures { λ r. ⌜ (r ≤ n) × (r ≡ slotsBelow n job (now (board .entry))) ⌝ }
 {
     let mut i: usize = 0;

@@ -1,7 +1,7 @@
 // Outcomes as they come in: which bytes are an answer or a refusal in force, and which are malformed (02, A1).
 ghost use mathlib.Core.Path.{_≡_};
 ghost use Prim.Native.Nat.{_≤_};
-ghost use Rattle.outcomes.specs.Outcomes.{isSized, isRefusal, nameEnds, isAnswer, isOutcome};
+ghost use Rattle.outcomes.specs.Outcomes.{isSized, isRefusal, allNameAnEnd, isAnswer, isOutcome};
 use little_endian::u16_at;
 use little_endian::u32_at;
 use records::ENTRY_SIZE;
@@ -41,7 +41,7 @@ pub fn is_sized(s: &[u8], n: usize) -> bool
 // Whether each of the first n entries names an end of its bracket as the chosen one.
 fn name_ends(s: &[u8], n: usize) -> bool
     requires { ⌜ n ≤ 8 ⌝ }
-    ensures { λ r. ⌜ r ≡ nameEnds n (now (s .entry)) ⌝ }
+    ensures { λ r. ⌜ r ≡ allNameAnEnd n (now (s .entry)) ⌝ }
 {
     let mut all = true;
     let mut i: usize = 0;

@@ -104,21 +104,21 @@ unfoldable pub entryFields : List Field
 entryFields = LOWER ∷ HALVINGS ∷ CHOSEN ∷ V1X ∷ V1Y ∷ V1Z ∷ V2X ∷ V2Y ∷ V2Z ∷ []
 
 -- the sizes of the records in bytes, where their tables end (proofs/Tables.antt): the head, which is a refusal's all, and an entry
-abbrev pub HEAD_SIZE : ℕ
-HEAD_SIZE = 16
+abbrev pub headSize : ℕ
+headSize = 16
 
-abbrev pub ENTRY_SIZE : ℕ
-ENTRY_SIZE = 64
+abbrev pub entrySize : ℕ
+entrySize = 64
 
 -- an answer with n entries, and the longest one, with eight
 abbrev pub answerSize : ℕ → ℕ
-answerSize n = HEAD_SIZE + ENTRY_SIZE * n
+answerSize n = headSize + entrySize * n
 
-abbrev pub MOST_ENTRIES : ℕ
-MOST_ENTRIES = 8
+abbrev pub mostEntries : ℕ
+mostEntries = 8
 
-abbrev pub ANSWER_ROOM : ℕ
-ANSWER_ROOM = answerSize MOST_ENTRIES
+abbrev pub answerRoom : ℕ
+answerRoom = answerSize mostEntries
 
 -- the number that a field of some bytes holds, and the bytes of a record whose fields hold some numbers
 abbrev pub valueOf : Field → List ℕ → ℕ

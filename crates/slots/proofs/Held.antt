@@ -8,8 +8,8 @@ use borrow.Author.Tests.{eqb-true, leb-true}
 use lib.Dec.{eqb, leb}
 use lib.ListN.{length, take, drop, replicate, length-take, length-drop, take-append-drop}
 use lib.Seq.{take-at, drop-at}
-use Rattle.records.specs.Layout.{LENGTH, KIND, LAST, HEAD_SIZE, MOST_ENTRIES, answerSize, valueOf}
-use Rattle.outcomes.specs.Outcomes.{jobOf, isSized, isFrom, isRefusal, nameEnds, isAnswer, isOutcome}
+use Rattle.records.specs.Layout.{LENGTH, KIND, LAST, headSize, mostEntries, answerSize, valueOf}
+use Rattle.outcomes.specs.Outcomes.{jobOf, isSized, isBetween, isRefusal, allNameAnEnd, isAnswer, isOutcome}
 use Rattle.slots.specs.Slots.{slotOf, sizeIn, contentOf, isConflict, isHeld, isZero, isFilled}
 use Rattle.slots.proofs.Padding.{padded-is, number-padded, number-take}
 use Rattle.slots.proofs.Zeros.{both, zero-is, zeros-zero, zero-number}
@@ -37,15 +37,15 @@ sized c n l h e =
 refusal-sizes : (c : List ℕ) → isRefusal c ≡ true → Sizes c
 unfolding isRefusal
 refusal-sizes c e =
-    sized c HEAD_SIZE (omega arith) (omega arith) (both (eqb (valueOf KIND c) 3) (isSized c HEAD_SIZE) (both (eqb (valueOf KIND c) 3 && isSized c HEAD_SIZE) (isFrom 1 14 (valueOf LAST c)) e .0) .1)
+    sized c headSize (omega arith) (omega arith) (both (eqb (valueOf KIND c) 3) (isSized c headSize) (both (eqb (valueOf KIND c) 3 && isSized c headSize) (isBetween 1 14 (valueOf LAST c)) e .0) .1)
 
 answer-sizes : (c : List ℕ) → isAnswer c ≡ true → Sizes c
 unfolding isAnswer
 answer-sizes c e =
     let n = valueOf LAST c in
     let kind = eqb (valueOf KIND c) 2 in
-    let few = isFrom 1 MOST_ENTRIES n in
-    let p : (kind && few ≡ true) × (isSized c (answerSize n) ≡ true) = both (kind && few) (isSized c (answerSize n)) (both (kind && few && isSized c (answerSize n)) (nameEnds n c) e .0) in
+    let few = isBetween 1 mostEntries n in
+    let p : (kind && few ≡ true) × (isSized c (answerSize n) ≡ true) = both (kind && few) (isSized c (answerSize n)) (both (kind && few && isSized c (answerSize n)) (allNameAnEnd n c) e .0) in
     let most : n ≤ 8 = leb-true n 8 (both (leb 1 n) (leb n 8) (both kind few (p .0) .1) .1) in
     sized c (answerSize n) (omega arith) (omega arith) (p .1)
 

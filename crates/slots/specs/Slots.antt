@@ -4,16 +4,16 @@ use mathlib.Core.Bool.{Bool, true, false, _&&_, _||_}
 use mathlib.Core.List.{List, [], _∷_, _++_}
 use lib.Dec.{eqb}
 use lib.ListN.{length, take, drop, replicate}
-use Rattle.records.specs.Layout.{Field, LENGTH, KIND, JOB, REVISION, ANSWER_ROOM, valueOf, encode}
+use Rattle.records.specs.Layout.{Field, LENGTH, KIND, JOB, REVISION, answerRoom, valueOf, encode}
 use Rattle.outcomes.specs.Outcomes.{isSized, isOutcome}
 
 -- some bytes and then zeros, up to a size; cut there where the bytes are more
 unfoldable pub padded : ℕ → List ℕ → List ℕ
 padded size bytes = take size (bytes ++ replicate size 0)
 
--- the slot that holds some bytes: it has room for the longest answer
+-- the slot that holds some bytes: 528 bytes, room for the longest answer
 abbrev pub slotOf : List ℕ → List ℕ
-slotOf bytes = padded ANSWER_ROOM bytes
+slotOf bytes = padded answerRoom bytes
 
 -- how many bytes stand in a slot by the length that they begin with, and these bytes
 abbrev pub sizeIn : List ℕ → ℕ
@@ -29,8 +29,11 @@ conflictFields = LENGTH ∷ KIND ∷ JOB ∷ REVISION ∷ []
 unfoldable pub conflictBytes : ℕ → ℕ → List ℕ
 conflictBytes job revision = encode conflictFields (10 ∷ 4 ∷ job ∷ revision ∷ [])
 
+abbrev pub conflictSize : ℕ
+conflictSize = 14
+
 unfoldable pub isConflict : List ℕ → Bool
-isConflict s = eqb (valueOf KIND s) 4 && isSized s 14
+isConflict s = eqb (valueOf KIND s) 4 && isSized s conflictSize
 
 -- what a slot may hold: an outcome that is not malformed, or a conflict
 unfoldable pub isHeld : List ℕ → Bool

@@ -5,8 +5,7 @@ use Prim.Native.Nat.{ℕ}
 use borrow.Author.Needs.{needs}
 use borrow.Author.Tests.{not-true, not-false, eq-eqb, ne-eqb}
 use Rattle.outcomes.specs.Outcomes.{jobOf, isOutcome}
-use Rattle.board.specs.Board.{isBoard, postOf}
-use Rattle.board.specs.Internals.{placedOn}
+use Rattle.board.specs.Board.{isBoard, postOf, placedOn}
 use Rattle.board.proofs.post.Statement.{statement}
 use Rattle.board.proofs.post.Tie as tie
 
@@ -61,7 +60,7 @@ same-length-4 : tie.Need-same-length-4
 same-length-4 c = search needs
 
 returns-4 : tie.Need-returns-4
-unfolding postOf placedOn
+unfolding postOf
 returns-4 c =
     let k = c .before .before .before .before in
     let job = k .before .u32-at in

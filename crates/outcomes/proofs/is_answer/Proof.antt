@@ -6,7 +6,7 @@ use mathlib.Core.Logic.{⊎-elim}
 use native.Mathlib.Omega.{arith}
 use borrow.Author.Needs.{needs}
 use borrow.Author.Tests.{le-leb, lt-leb, ltb-true, ltb-false}
-use Rattle.outcomes.specs.Outcomes.{isFrom, isAnswer}
+use Rattle.outcomes.specs.Outcomes.{isBetween, isAnswer}
 use Rattle.outcomes.proofs.is_answer.Statement.{statement}
 use Rattle.outcomes.proofs.is_answer.Tie as tie
 
@@ -17,7 +17,7 @@ cast-n : tie.Need-cast-n
 cast-n c = search needs
 
 -- both ways to the branch are outside the range
-outside : (c : tie.Joined1) → isFrom 1 8 (c .before .u16-at .result) ≡ false
+outside : (c : tie.Joined1) → isBetween 1 8 (c .before .u16-at .result) ≡ false
 outside c =
     let n = c .before .u16-at .result in
     ⊎-elim (λ w. rw (lt-leb 1 n (omega arith))) (λ w. rw (lt-leb n 8 (omega (arith, ltb-true _ n (w .1 .taken))), and-false)) (c .if1 .came)
@@ -42,7 +42,7 @@ name-ends-requires : tie.Need-name-ends-requires
 name-ends-requires c κs = search needs
 
 -- past the branch n is in the range
-inside : (n : ℕ) → 1 ≤ n → n ≤ 8 → isFrom 1 8 n ≡ true
+inside : (n : ℕ) → 1 ≤ n → n ≤ 8 → isBetween 1 8 n ≡ true
 inside n l h = rw (le-leb 1 n l, le-leb n 8 h)
 
 returns-2 : tie.Need-returns-2

@@ -5,18 +5,18 @@ use mathlib.Core.Path.{_≡_, refl}
 use native.Mathlib.Numerals.{add-one}
 use native.Mathlib.Omega.{arith}
 use borrow.Author.Needs.{needs}
-use Rattle.outcomes.specs.Outcomes.{nameEnds}
+use Rattle.outcomes.specs.Outcomes.{allNameAnEnd}
 use Rattle.outcomes.proofs.name_ends.Statement.{statement}
 use Rattle.outcomes.proofs.name_ends.Tie as tie
 
 abbrev Inv-loop : tie.InvT-loop
-Inv-loop s n all₀ i₀ all i = (i ≤ n) × (all ≡ nameEnds i s)
+Inv-loop s n all₀ i₀ all i = (i ≤ n) × (all ≡ allNameAnEnd i s)
 
 abbrev μ-loop : tie.MeasureT-loop
 μ-loop s n all₀ i₀ all i = n - i
 
 loop-holds : tie.Need-loop-holds Inv-loop μ-loop
-unfolding nameEnds
+unfolding allNameAnEnd
 loop-holds c = (omega arith, refl)
 
 mul-u32-at : tie.Need-mul-u32-at Inv-loop μ-loop
@@ -38,7 +38,7 @@ loop-less : tie.Need-loop-less Inv-loop μ-loop
 loop-less c = search needs
 
 loop-again : tie.Need-loop-again Inv-loop μ-loop
-unfolding nameEnds
+unfolding allNameAnEnd
 loop-again c = (omega arith, rw (add-one, c .u32-at .ensures, c .before .before .loop .inv .1))
 
 returns : tie.Need-returns Inv-loop μ-loop

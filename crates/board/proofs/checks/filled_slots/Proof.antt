@@ -7,19 +7,19 @@ use native.Mathlib.Nat.{zero-add}
 use borrow.Author.Tests.{not-true, not-false}
 use lib.Dec.{eqb}
 use lib.ListN.{drop}
-use Rattle.board.specs.Internals.{namedSlots}
+use Rattle.board.specs.Internals.{slotsBeforeFree}
 use Rattle.board.proofs.Checked.{named-next}
 use Rattle.board.proofs.checks.filled_slots.Statement.{statement}
 use Rattle.board.proofs.checks.filled_slots.Tie as tie
 
 abbrev Inv-loop : tie.InvT-loop
-Inv-loop board n₀ n = (n ≤ 64) × (n + namedSlots (64 - n) (drop (n * 528) board) ≡ namedSlots 64 board)
+Inv-loop board n₀ n = (n ≤ 64) × (n + slotsBeforeFree (64 - n) (drop (n * 528) board) ≡ slotsBeforeFree 64 board)
 
 abbrev μ-loop : tie.MeasureT-loop
 μ-loop board n₀ n = 64 - n
 
 loop-holds : tie.Need-loop-holds Inv-loop μ-loop
-loop-holds c = (omega arith, zero-add (namedSlots 64 (c .before .args .board .now)))
+loop-holds c = (omega arith, zero-add (slotsBeforeFree 64 (c .before .args .board .now)))
 
 mul-u32-at : tie.Need-mul-u32-at Inv-loop μ-loop
 mul-u32-at c = omega arith
@@ -37,23 +37,23 @@ loop-again : tie.Need-loop-again Inv-loop μ-loop
 loop-again c =
     let l = c .before .before .before .loop in
     let b = c .before .before .before .before .before .args .board .now in
-    let step = named-next 64 (l .n) b (omega arith) ∙ ap (λ (t : Bool). cond t 0 (suc (namedSlots (64 - (l .n + 1)) (drop ((l .n + 1) * 528) b)))) (ap (λ (x : ℕ). eqb x 0) (sym (c .before .u32-at .ensures)) ∙ not-true (eqb (c .before .u32-at .result) 0) (c .if1 .taken)) in
+    let step = named-next 64 (l .n) b (omega arith) ∙ ap (λ (t : Bool). cond t 0 (suc (slotsBeforeFree (64 - (l .n + 1)) (drop ((l .n + 1) * 528) b)))) (ap (λ (x : ℕ). eqb x 0) (sym (c .before .u32-at .ensures)) ∙ not-true (eqb (c .before .u32-at .result) 0) (c .if1 .taken)) in
     (omega arith, omega (arith, step, l .inv .1))
 
 returns : tie.Need-returns Inv-loop μ-loop
 returns c =
     let l = c .before .before .before .loop in
     let b = c .before .before .before .before .before .args .board .now in
-    let step = named-next 64 (l .n) b (omega arith) ∙ ap (λ (t : Bool). cond t 0 (suc (namedSlots (64 - (l .n + 1)) (drop ((l .n + 1) * 528) b)))) (ap (λ (x : ℕ). eqb x 0) (sym (c .before .u32-at .ensures)) ∙ not-false (eqb (c .before .u32-at .result) 0) (c .if1 .left)) in
+    let step = named-next 64 (l .n) b (omega arith) ∙ ap (λ (t : Bool). cond t 0 (suc (slotsBeforeFree (64 - (l .n + 1)) (drop ((l .n + 1) * 528) b)))) (ap (λ (x : ℕ). eqb x 0) (sym (c .before .u32-at .ensures)) ∙ not-false (eqb (c .before .u32-at .result) 0) (c .if1 .left)) in
     (omega arith, omega (arith, step, l .inv .1))
 
 returns-2 : tie.Need-returns-2 Inv-loop μ-loop
-unfolding namedSlots
+unfolding slotsBeforeFree
 returns-2 c =
     let l = c .before .loop in
     let b = c .before .before .before .args .board .now in
     let all : l .n ≡ 64 = omega arith in
-    let none : namedSlots (64 - l .n) (drop (l .n * 528) b) ≡ 0 = rw all refl in
+    let none : slotsBeforeFree (64 - l .n) (drop (l .n * 528) b) ≡ 0 = rw all refl in
     (omega arith, omega (arith, none, l .inv .1))
 
 pub filled-slots-spec : {M : Type 1} → statement M

@@ -10,13 +10,13 @@ use lib.ListN.{length, take, drop, length-drop}
 use lib.Seq.{take-all}
 use Rattle.slots.specs.Slots.{isZero}
 use Rattle.board.specs.Board.{isBoard, inOrder}
-use Rattle.board.specs.Internals.{namedSlots, filledRising}
+use Rattle.board.specs.Internals.{slotsBeforeFree, filledRising}
 use Rattle.board.proofs.Checked.{checked}
 use Rattle.board.proofs.checks.is_board.Statement.{statement}
 use Rattle.board.proofs.checks.is_board.Tie as tie
 
 -- the two tests of a board of the right size
-tested : (b : List ℕ) → length b ≡ 33792 → isBoard b ≡ filledRising (namedSlots 64 b) 0 b && isZero (drop (namedSlots 64 b * 528) b)
+tested : (b : List ℕ) → length b ≡ 33792 → isBoard b ≡ filledRising (slotsBeforeFree 64 b) 0 b && isZero (drop (slotsBeforeFree 64 b * 528) b)
 unfolding isBoard
 tested b e = rw (eq-eqb (length b) 33792 e) (checked 64 0 b e)
 

@@ -1,4 +1,4 @@
--- `place` meets its contract: each way that `way_of` finds leads to what `placedOn` says (`goes`).
+-- `place` meets its contract: each route that `route_of` finds leads to what `placedOn` says (`goes`).
 use mathlib.Core.Path.{_≡_, refl, sym, ap, _∙_, subst}
 use mathlib.Core.Bool.{true}
 use mathlib.Core.List.{List}
@@ -10,10 +10,10 @@ use lib.ListN.{length, take, drop, length-drop}
 use lib.Seq.{length-take-le}
 use Rattle.outcomes.specs.Outcomes.{jobOf}
 use Rattle.slots.specs.Slots.{padded, slotOf, contentOf}
-use Rattle.board.specs.declared.moves.Way.{Way}
-use Rattle.board.specs.declared.moves.Way.the-variants.{Joins, Enters, NoSlot}
+use Rattle.board.specs.declared.moves.Route.{Route}
+use Rattle.board.specs.declared.moves.Route.the-variants.{Joins, Enters, NoneFree}
 use Rattle.board.specs.Board.{joined}
-use Rattle.board.specs.Internals.{wayOf, movedUp}
+use Rattle.board.specs.Internals.{routeOf, movedUp}
 use Rattle.board.proofs.Moved.{move-length}
 use Rattle.board.proofs.Entered.{JoinsAt, EntersAt, Goes, goes, board-size}
 use Rattle.board.proofs.moves.place.Statement.{statement}
@@ -22,29 +22,29 @@ use Rattle.board.proofs.moves.place.Tie as tie
 u32-at-requires : tie.Need-u32-at-requires
 u32-at-requires c κs = search needs
 
-way-of-requires : tie.Need-way-of-requires
-way-of-requires c κs = board-size (c .before .before .before .before .args .board .now) (c .before .before .before .before .pre)
+route-of-requires : tie.Need-route-of-requires
+route-of-requires c κs = board-size (c .before .before .before .before .args .board .now) (c .before .before .before .before .pre)
 
 enum-known-from : tie.Need-enum-known-from
 enum-known-from c = search needs
 
--- the way that was found, and what it leads to
-leads : (c : tie.After-way-of) (w : Way) → c .way-of .result ≡ w → let a = c .before .before .before .before .before .args in Goes (a .board .now) (a .message .now) w
+-- the route that was found, and what it leads to
+leads : (c : tie.After-route-of) (w : Route) → c .route-of .result ≡ w → let a = c .before .before .before .before .before .args in Goes (a .board .now) (a .message .now) w
 leads c w e =
     let s = c .before .before .before .before .before in
-    let way = ap (λ (job : ℕ). wayOf (s .args .board .now) job) (sym (c .before .u32-at .ensures)) ∙ sym (c .way-of .ensures) ∙ e in
-    subst (Goes (s .args .board .now) (s .args .message .now)) way (goes (s .args .board .now) (s .args .message .now) (s .pre))
+    let route = ap (λ (job : ℕ). routeOf (s .args .board .now) job) (sym (c .before .u32-at .ensures)) ∙ sym (c .route-of .ensures) ∙ e in
+    subst (Goes (s .args .board .now) (s .args .message .now)) route (goes (s .args .board .now) (s .args .message .now) (s .pre))
 
-size : (c : tie.After-way-of) → length (c .before .before .before .before .before .args .board .now) ≡ 33792
+size : (c : tie.After-route-of) → length (c .before .before .before .before .before .args .board .now) ≡ 33792
 size c = let s = c .before .before .before .before .before in board-size (s .args .board .now) (s .pre)
 
 part : (from : ℕ) → from + 528 - from ≡ 528
 part from = omega arith
 
-abbrev board-at : tie.After-way-of → List ℕ
+abbrev board-at : tie.After-route-of → List ℕ
 board-at c = c .before .before .before .before .before .args .board .now
 
-abbrev message-at : tie.After-way-of → List ℕ
+abbrev message-at : tie.After-route-of → List ℕ
 message-at c = c .before .before .before .before .before .args .message .now
 
 joins : (c : tie.After-from) → JoinsAt (board-at (c .before .before)) (message-at (c .before .before)) (c .from .given .0 .0)
@@ -145,14 +145,14 @@ same-length-3 : tie.Need-same-length-3
 same-length-3 c = search needs
 
 returns-3 : tie.Need-returns-3
-returns-3 c = leads (c .before .before) NoSlot (c .enum-told .given .1)
+returns-3 c = leads (c .before .before) NoneFree (c .enum-told .given .1)
 
 pub place-spec : {M : Type 1} → statement M
 place-spec =
     tie.close
     (tie.spec
     u32-at-requires
-    way-of-requires
+    route-of-requires
     enum-known-from
     add-to
     sub-join

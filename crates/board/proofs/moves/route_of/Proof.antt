@@ -1,4 +1,4 @@
--- `way_of` meets its contract: it asks what `wayOf` asks.
+-- `route_of` meets its contract: it asks what `routeOf` asks.
 use mathlib.Core.Path.{_≡_, refl, sym, ap, _∙_}
 use mathlib.Core.Bool.{Bool, true, false, _&&_}
 use Prim.Native.Nat.{ℕ, _+_, _*_}
@@ -6,9 +6,9 @@ use borrow.Author.Needs.{needs}
 use borrow.Author.Tests.{eq-eqb, ne-eqb}
 use lib.Dec.{eqb, ltb}
 use Rattle.little_endian.specs.Bytes.{numberAt}
-use Rattle.board.specs.Internals.{namedSlots, slotsBelow, wayOf}
-use Rattle.board.proofs.moves.way_of.Statement.{statement}
-use Rattle.board.proofs.moves.way_of.Tie as tie
+use Rattle.board.specs.Internals.{slotsBeforeFree, slotsBelow, routeOf}
+use Rattle.board.proofs.moves.route_of.Statement.{statement}
+use Rattle.board.proofs.moves.route_of.Tie as tie
 
 filled-slots-requires : tie.Need-filled-slots-requires
 filled-slots-requires c κs = search needs
@@ -26,22 +26,22 @@ u32-at-requires : tie.Need-u32-at-requires
 u32-at-requires c κs = search needs
 
 returns : tie.Need-returns
-unfolding wayOf
+unfolding routeOf
 returns c = rw (← c .before .before .before .filled-slots .ensures .1, ← c .before .before .slots-below .ensures .1, ← c .before .u32-at .ensures, c .if1 .taken) refl
 
 returns-2 : tie.Need-returns-2
-unfolding wayOf
+unfolding routeOf
 returns-2 c = rw (← c .before .before .before .before .filled-slots .ensures .1, ← c .before .before .before .slots-below .ensures .1, ← c .before .before .u32-at .ensures, c .before .if1 .left, eq-eqb (c .before .before .before .before .filled-slots .result) 64 (c .if2 .taken)) refl
 
 mul-t8 : tie.Need-mul-t8
 mul-t8 c = search needs
 
 returns-3 : tie.Need-returns-3
-unfolding wayOf
+unfolding routeOf
 returns-3 c = rw (← c .before .before .before .before .filled-slots .ensures .1, ← c .before .before .before .slots-below .ensures .1, ← c .before .before .u32-at .ensures, c .before .if1 .left, ne-eqb (c .before .before .before .before .filled-slots .result) 64 (c .if2 .left)) refl
 
-pub way-of-spec : {M : Type 1} → statement M
-way-of-spec =
+pub route-of-spec : {M : Type 1} → statement M
+route-of-spec =
     tie.close
     (tie.spec
     filled-slots-requires
