@@ -50,7 +50,8 @@ padded-none n = take-all n (zeros n) (omega (arith, length-replicate {A = ℕ} n
 unfoldable pub slotsIn : ℕ → List (List ℕ) → List ℕ
 slotsIn n cs = padded (n * answerRoom) (slotsBytes cs)
 
-one-more : (n : ℕ) → suc n * answerRoom ≡ answerRoom + n * answerRoom
+-- one slot more
+pub one-more : (n : ℕ) → suc n * answerRoom ≡ answerRoom + n * answerRoom
 one-more n = omega arith
 
 pub slots-next : (n : ℕ) (c : List ℕ) (cs : List (List ℕ)) → slotsIn (suc n) (c ∷ cs) ≡ slotOf c ++ slotsIn n cs

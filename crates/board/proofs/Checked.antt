@@ -17,6 +17,7 @@ use Rattle.slots.specs.Slots.{contentOf, slotOf, isFilled, isZero}
 use Rattle.slots.proofs.Padding.{number-take, number-drop}
 use Rattle.slots.proofs.Zeros.{zero-number}
 use Rattle.slots.proofs.Held.{slot-named, content-held, slot-back}
+use Rattle.board.proofs.Boards.{one-more}
 use Rattle.board.specs.Board.{inOrder, heldIn}
 use Rattle.board.specs.Internals.{slotsBeforeFree, filledRising, slotsBelow}
 
@@ -27,9 +28,6 @@ named s e z = by (isFilled s) refl
     by : (t : Bool) → isFilled s ≡ t → isFilled s ≡ false
     by false f = f
     by true f = absurd (slot-named (contentOf s) (content-held s f) (ap (valueOf LENGTH) (sym (slot-back s f e)) ∙ z))
-
-one-more : (k : ℕ) → answerRoom + k * answerRoom ≡ suc k * answerRoom
-one-more k = omega arith
 
 zero-unnamed : (b : List ℕ) → (valueOf LENGTH b ≡ 0 → ⊥) → isZero b ≡ false
 zero-unnamed b h = by (isZero b) refl
@@ -67,7 +65,7 @@ checked (suc n) above b e =
         rw (empty, z) (or-false (isZero b))
     by below false z =
         let first = isFilled slot && ltb above (jobOf slot) in
-        let after : isZero (drop (k * answerRoom) rest) ≡ isZero (drop (suc k * answerRoom) b) = ap isZero (drop-drop (k * answerRoom) answerRoom b ∙ ap (λ (m : ℕ). drop m b) (one-more k)) in
+        let after : isZero (drop (k * answerRoom) rest) ≡ isZero (drop (suc k * answerRoom) b) = ap isZero (drop-drop (k * answerRoom) answerRoom b ∙ ap (λ (m : ℕ). drop m b) (sym (one-more k))) in
         rw (z, zero-unnamed b (eqb-false (valueOf LENGTH b) 0 z), below (jobOf slot))
         (sym (and-assoc first (filledRising k (jobOf slot) rest) (isZero (drop (k * answerRoom) rest)))
         ∙ ap (λ (x : Bool). first && filledRising k (jobOf slot) rest && x) after)

@@ -26,7 +26,7 @@ use Rattle.board.specs.declared.Posted.the-variants.{Taken, Refused}
 use Rattle.board.specs.Messages.{HeldRising, none, next}
 use Rattle.board.specs.Board.{SLOTS, boardSize, inOrder, isBoard, heldOn, slotsBytes, boardOf, joined, placed, placedOn}
 use Rattle.board.specs.Internals.{slotsBeforeFree, slotsBelow, routeOf, movedUp}
-use Rattle.board.proofs.Boards.{zeros, padded-append, slotsIn, slots-next, slots-none, board-held}
+use Rattle.board.proofs.Boards.{one-more, zeros, padded-append, slotsIn, slots-next, slots-none, board-held}
 
 -- ---- the bytes of slots one after another
 
@@ -99,9 +99,6 @@ put-between m pre post x =
   where
     tail : (k : ℕ) → slotsIn (length post + k) post ≡ slotsBytes post ++ zeros (k * answerRoom)
     tail k = ap (slotsIn (length post + k)) (sym (append-nil post)) ∙ slots-append k post [] ∙ ap (λ l. slotsBytes post ++ l) (slots-none k)
-
-    one-more : (k : ℕ) → suc k * answerRoom ≡ answerRoom + k * answerRoom
-    one-more k = omega arith
 
     zeros-more : zeros (suc m * answerRoom) ≡ zeros answerRoom ++ zeros (m * answerRoom)
     zeros-more = ap zeros (one-more m) ∙ sym (replicate-append-replicate {A = ℕ} answerRoom (m * answerRoom) 0)
@@ -312,12 +309,12 @@ module _ (b new : List ℕ) (board : isBoard b ≡ true) where
     post-size : length (drop place cs) ≡ length cs - place
     post-size = length-drop place cs
 
-    one-more : length (pre ++ (new ∷ drop place cs)) ≡ suc (length cs)
-    one-more = length-append pre (new ∷ drop place cs) ∙ omega (arith, pre-size, post-size, below-le cs (jobOf new))
+    one-held-more : length (pre ++ (new ∷ drop place cs)) ≡ suc (length cs)
+    one-held-more = length-append pre (new ∷ drop place cs) ∙ omega (arith, pre-size, post-size, below-le cs (jobOf new))
 
     enters-none : NotThere b new i → slotsBeforeFree SLOTS b ≡ SLOTS → Gives b new (Refused 3) b
     unfolding placedOn
-    enters-none h full = rw (whole h, lt-ltb SLOTS (length (pre ++ (new ∷ drop place cs))) (omega (arith, one-more, filled-is, full))) (refl, refl)
+    enters-none h full = rw (whole h, lt-ltb SLOTS (length (pre ++ (new ∷ drop place cs))) (omega (arith, one-held-more, filled-is, full))) (refl, refl)
 
     enters-new : NotThere b new i → slotsBeforeFree SLOTS b < SLOTS → Gives b new Taken (putMid (i * answerRoom) answerRoom (movedUp (i * answerRoom) (slotsBeforeFree SLOTS b * answerRoom) b) (slotOf new))
     unfolding boardOf slotsIn
@@ -329,7 +326,7 @@ module _ (b new : List ℕ) (board : isBoard b ≡ true) where
         let sum : slotsBeforeFree SLOTS b ≡ length pre + length post = omega (arith, pre-size, post-size, below-le cs (jobOf new), filled-is) in
         let to : slotsBeforeFree SLOTS b * answerRoom ≡ length pre * answerRoom + length post * answerRoom = ap (λ (n : ℕ). n * answerRoom) sum ∙ times (length pre) (length post) in
         let shown : b ≡ slotsIn (length pre + (length post + suc m)) (pre ++ post) = bytes ∙ ap (slotsIn SLOTS) (sym (take-append-drop place cs)) ∙ ap (λ (n : ℕ). slotsIn n (pre ++ post)) total in
-        let go = taken (pre ++ (new ∷ post)) (whole h) (omega (arith, one-more, filled-is, room)) in (
+        let go = taken (pre ++ (new ∷ post)) (whole h) (omega (arith, one-held-more, filled-is, room)) in (
           go .0,
           ap (λ (n : ℕ). putMid n answerRoom (movedUp n (slotsBeforeFree SLOTS b * answerRoom) b) (slotOf new)) from
               ∙ ap (λ (n : ℕ). putMid (length pre * answerRoom) answerRoom (movedUp (length pre * answerRoom) n b) (slotOf new)) to
