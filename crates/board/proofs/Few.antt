@@ -1,12 +1,12 @@
--- HeldRising records whose jobs all stand in a list are no more than it (`few`): by taking the job of the first one out of the list, since every later one has another.
+-- Rising records whose jobs all stand in a list that names another job too are fewer than it (`few`): by taking the job of the first one out of the list, since every later one has another.
 use mathlib.Core.Path.{_≡_, refl, sym, ap, _∙_}
 use mathlib.Core.List.{List, _∷_, List·Memᴰ, List·Memᴰ·head as here, List·Memᴰ·tail as there, List·Memᴰ·cases-cons as in-first}
 use mathlib.Core.Logic.{⊎-elim}
-use Prim.Native.Nat.{ℕ, suc, _≤_}
+use Prim.Native.Nat.{ℕ, suc, _<_}
 use native.Mathlib.Omega.{arith}
 use lib.ListN.{length}
 use Rattle.outcomes.specs.Outcomes.{jobOf}
-use Rattle.board.specs.Messages.{_∈_, HeldRising, none, next}
+use Rattle.board.specs.Messages.{_∈_, HeldRising, none, next, NoneOf}
 use Rattle.board.proofs.Placing.{above-all}
 
 -- a list with one number less, which still has every other
@@ -16,8 +16,9 @@ without (there {x} m) =
     let less = without m in
     (x ∷ less .0, (ap suc (less .1 .0), λ k n apart. ⊎-elim here (λ o. there (less .1 .1 k o apart)) (in-first n)))
 
-pub few : {above : ℕ} {cs : List (List ℕ)} → HeldRising above cs → (js : List ℕ) → ((c : List ℕ) → c ∈ cs → List·Memᴰ (jobOf c) js) → length cs ≤ length js
-few none js named = omega arith
-few (next {c} l h r) js named =
+pub few : {above : ℕ} {cs : List (List ℕ)} → HeldRising above cs → (js : List ℕ) → ((c : List ℕ) → c ∈ cs → List·Memᴰ (jobOf c) js) → {j : ℕ} → List·Memᴰ j js → NoneOf j cs → length cs < length js
+few none js named i apart = omega (arith, without i .1 .0)
+few (next {c} l h r) js named {j} i apart =
     let less = without (named c (here refl)) in
-    omega (arith, less .1 .0, few r (less .0) (λ d m. less .1 .1 (jobOf d) (named d (there m)) (λ e. omega (arith, above-all r m))))
+    let rest = few r (less .0) (λ d m. less .1 .1 (jobOf d) (named d (there m)) (λ e. omega (arith, above-all r m))) (less .1 .1 j i (λ e. apart c (here refl) (sym e))) (λ d m. apart d (there m)) in
+    omega (arith, less .1 .0, rest)

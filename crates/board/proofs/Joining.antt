@@ -1,7 +1,8 @@
--- What `joined` makes of what is held and a record of the same job, by its tests (`joining`): the later lemmas go by these four cases. It is of their job, a slot may hold it, and joining the record again changes nothing (`joined-again`).
-use mathlib.Core.Path.{_≡_, refl, _∙_}
+-- What `joined` makes of what is held and a record of the same job, by its tests (`joining`): the later lemmas go by these four cases. It is of their job, a slot may hold it, and joining the record again changes nothing (`joined-again`), nor does joining an older one (`joined-kept`).
+use mathlib.Core.Path.{_≡_, refl, ap, _∙_}
 use mathlib.Core.Bool.{Bool, true, false, cond}
 use mathlib.Core.List.{List}
+use mathlib.Core.Logic.{_⊎_, inl, inr}
 use Prim.Native.Nat.{ℕ, _^_, _<_}
 use native.Mathlib.Omega.{arith}
 use borrow.Author.Tests.{ltb-true, ltb-false, le-ltb}
@@ -48,6 +49,15 @@ joined-held (newer l) f g = g
 joined-held (older l) f g = f
 joined-held (again s) f g = f
 joined-held {new} (clash s d) f g = conflict-held (jobOf new) (revisionOf new)
+
+-- a lower revision, or the same bytes
+pub joined-kept : {held new c : List ℕ} → Joining held new c → (revisionOf new < revisionOf held) ⊎ (held ≡ new) → c ≡ held
+joined-kept (newer l) (inl k) = absurd (omega arith)
+joined-kept (newer l) (inr e) = absurd (omega (arith, ap revisionOf e))
+joined-kept (older l) how = refl
+joined-kept (again s) how = refl
+joined-kept (clash s d) (inl k) = absurd (omega arith)
+joined-kept (clash s d) (inr e) = absurd (d e)
 
 -- of one revision: the bytes that are held, or a conflict
 level : (held new : List ℕ) → revisionOf held ≡ revisionOf new → joined held new ≡ cond (sameBytes held new) held (conflictBytes (jobOf new) (revisionOf new))

@@ -1,18 +1,19 @@
--- What is held says what came, whatever the order: the invariant `Keeps` of the records that were seen and what is held of them. A record that counts, placed, keeps it (`keeps-more`), and so does one that does not count (`keeps-same`). By the cases of `placed` and, where the job is held, of `joined`.
+-- What is held says what came, whatever the order: the invariant `Keeps` of the records that were seen and what is held of them. A record that counts, placed, keeps it (`keeps-more`), and so does one that is refused (`keeps-refused`), over any number of jobs. By the cases of `placed` and, where the job is held, of `joined`.
 use mathlib.Core.Path.{_≡_, refl, sym, ap, _∙_}
 use mathlib.Core.Bool.{Bool, true, false}
 use mathlib.Core.List.{List, _∷_, List·Memᴰ·head as here, List·Memᴰ·tail as there, List·Memᴰ·cases-cons as in-first}
 use mathlib.Core.Logic.{_⊎_, inl, inr, ⊎-elim}
 use Prim.Native.Nat.{ℕ, _≤_, _<_}
 use native.Mathlib.Omega.{arith}
+use lib.ListN.{length}
 use Rattle.outcomes.specs.Outcomes.{jobOf, revisionOf, isOutcome}
 use Rattle.slots.specs.Slots.{conflictBytes}
-use Rattle.board.specs.Board.{joined, placed}
-use Rattle.board.specs.Messages.{_∈_, AreBytes, AllBytes, Counts, CameFor, OneRecord, InConflict, TwoDiffer, Holds, HeldRising, SomeOf}
+use Rattle.board.specs.Board.{SLOTS, placed}
+use Rattle.board.specs.Messages.{_∈_, AreBytes, AllBytes, Counts, CameFor, OneRecord, InConflict, TwoDiffer, Holds, HeldRising, SomeOf, NoneOf}
 use Rattle.slots.proofs.Conflicts.{conflict-revision, conflict-no-outcome}
 use Rattle.slots.proofs.Held.{outcome-held}
 use Rattle.board.proofs.Joining.{small-revision, Joining, newer, older, again, clash, joining, joined-job}
-use Rattle.board.proofs.Placing.{placing, placed-rising, Comes, kept, first, met, comes, stays, arrives}
+use Rattle.board.proofs.Placing.{placing, placed-rising, Comes, kept, first, met, comes, stays, arrives, Grown, grown}
 
 -- no test is both passed and failed
 pub never : {P : Type 0} {t : Bool} → t ≡ true → t ≡ false → P
@@ -114,11 +115,11 @@ module _ {seen : List (List ℕ)} {m : List ℕ} where
 
 -- ---- the invariant
 
--- rising records, each what its job's messages say, and one for each job of a message that counts
+-- rising records, each what its job's messages say; and, as long as they are not 64, one for each job of a message that counts. So a job enters with its first message, and one that a full board has no slot for never enters
 pub record Keeps (seen held : List (List ℕ)) : Type 0 where
   pub rising : HeldRising 0 held
   pub holds : (c : List ℕ) → c ∈ held → Holds seen (jobOf c) c
-  pub each : (m : List ℕ) → m ∈ seen → Counts m → SomeOf (jobOf m) held
+  pub each : length held < SLOTS → (m : List ℕ) → m ∈ seen → Counts m → SomeOf (jobOf m) held
 
 -- it goes by the messages that count, in any order and with any repeats
 pub keeps-same : {ms ns held : List (List ℕ)} → ((m : List ℕ) → Counts m → m ∈ ms → m ∈ ns) → ((m : List ℕ) → Counts m → m ∈ ns → m ∈ ms) → Keeps ms held → Keeps ns held
@@ -127,26 +128,47 @@ keeps-same forth back k = record {
   holds = λ c i.
       holds-same (λ m s. record { among = forth m (s .counts) (s .among); counts = s .counts; for = s .for })
       (λ m s. record { among = back m (s .counts) (s .among); counts = s .counts; for = s .for }) (k .holds c i);
-  each = λ m i counts. k .each m (back m counts i) counts;
+  each = λ room m i counts. k .each room m (back m counts i) counts;
 }
 
-pub keeps-more : {seen held : List (List ℕ)} (m : List ℕ) → Keeps seen held → AllBytes seen → AreBytes m → Counts m → Keeps (m ∷ seen) (placed held m)
-keeps-more {seen} {held} m k all bytes counts = record {
+-- a message of another job changes nothing of what is held of a job
+others : {seen : List (List ℕ)} {m : List ℕ} {job : ℕ} {held : List ℕ} → (Counts m → jobOf m ≡ job → ⊥) → Holds seen job held → Holds (m ∷ seen) job held
+others f h = holds-same (λ n s. more s) (λ n s. ⊎-elim (λ e. absurd (f (rw e at (s .counts)) (sym (ap jobOf e) ∙ s .for))) (λ t. t) (which s)) h
+
+-- one that is refused: it does not count, or there is no slot for its job
+pub keeps-refused : {seen held : List (List ℕ)} (m : List ℕ) → Keeps seen held → (Counts m → (length held ≡ SLOTS) × NoneOf (jobOf m) held) → Keeps (m ∷ seen) held
+keeps-refused m k f = record {
+  rising = k .rising;
+  holds = λ c i. others (λ counts e. f counts .1 c i (sym e)) (k .holds c i);
+  each = λ room n i counts. ⊎-elim (λ e. absurd (omega (arith, f (rw e at counts) .0))) (λ j. k .each room n j counts) (in-first i);
+}
+
+pub keeps-more : {seen held : List (List ℕ)} (m : List ℕ) → Keeps seen held → AllBytes seen → AreBytes m → Counts m → length (placed held m) ≤ SLOTS → Keeps (m ∷ seen) (placed held m)
+keeps-more {seen} {held} m k all bytes counts fits = record {
   rising = placed-rising (placing held m) bytes (outcome-held m (counts .formed)) (counts .named) (k .rising);
   holds = λ c i. by c (comes (placing held m) (k .rising) i);
-  each = λ n i counted. ⊎-elim (λ e. rw e (arrives (placing held m) bytes)) (λ j. lasts (k .each n j counted)) (in-first i);
+  each = λ room n i counted. ⊎-elim (λ e. rw e (arrives (placing held m) bytes)) (λ j. lasts (k .each (omega (arith, no-fewer)) n j counted)) (in-first i);
 }
   where
+    how : Grown (jobOf m) held (placed held m)
+    how = grown (placing held m) (k .rising)
+
+    no-fewer : length held ≤ length (placed held m)
+    no-fewer = ⊎-elim (λ n. omega (arith, n .1)) (λ s. omega (arith, s .1)) how
+
+    room : NoneOf (jobOf m) held → length held < SLOTS
+    room f = ⊎-elim (λ n. omega (arith, n .1)) (λ s. absurd (f (s .0 .0) (s .0 .1 .0) (s .0 .1 .1))) how
+
     lasts : {job : ℕ} → SomeOf job held → SomeOf job (placed held m)
     lasts s = let t = stays (placing held m) bytes (s .0) (s .1 .0) in (t .0, (t .1 .0, t .1 .1 ∙ s .1 .1))
 
     by : (c : List ℕ) → Comes m held c → Holds (m ∷ seen) (jobOf c) c
-    by c (kept i f) = holds-same (λ n s. more s) (λ n s. ⊎-elim (λ e. absurd (f (sym (s .for) ∙ ap jobOf e))) (λ t. t) (which s)) (k .holds c i)
+    by c (kept i f) = others (λ counts e. f (sym e)) (k .holds c i)
     by c (first f e) =
         rw e
         (inl
         (record {
           came = now all counts;
-          highest = λ n s. ⊎-elim inl (λ t. let was = k .each n (t .among) (t .counts) in absurd (f (was .0) (was .1 .0) (was .1 .1 ∙ t .for))) (which s);
+          highest = λ n s. ⊎-elim inl (λ t. let was = k .each (room f) n (t .among) (t .counts) in absurd (f (was .0) (was .1 .0) (was .1 .1 ∙ t .for))) (which s);
         }))
     by c (met {d} i f e) = rw (e, joined-job (joining d m) bytes f) (holds-joined all counts (joining d m) (rw f at (k .holds d i)))

@@ -10,3 +10,5 @@ mod Keeping
 pub mod Standing
 pub mod Order
 pub mod Highest
+pub mod Again
+pub mod ClosedCases

@@ -1,4 +1,4 @@
--- What `placed` makes of rising records and one more, by its tests (`placing`): the later lemmas go by these four cases. They still rise (`placed-rising`); where each of them comes from (`comes`), that no job is lost (`stays`, `arrives`), how many they are (`grown`), and that placing it again changes nothing (`placed-again`).
+-- What `placed` makes of rising records and one more, by its tests (`placing`): the later lemmas go by these four cases. They still rise (`placed-rising`); where each of them comes from (`comes`), that no job is lost (`stays`, `arrives`), how many they are (`grown`), that placing it again changes nothing (`placed-again`), nor does placing one that changes nothing of what is held of its job (`placed-same`).
 use mathlib.Core.Path.{_≡_, refl, sym, ap, _∙_}
 use mathlib.Core.Bool.{Bool, true, false, cond}
 use mathlib.Core.List.{List, [], _∷_, List·Memᴰ·head as here, List·Memᴰ·tail as there, List·Memᴰ·not-nil as in-none, List·Memᴰ·cases-cons as in-first}
@@ -114,3 +114,9 @@ placed-again {new} last bytes = at-job new new [] refl ∙ rw (joined-self new)
 placed-again {new} (before {c} {cs} k) bytes = at-job new new (c ∷ cs) refl ∙ rw (joined-self new)
 placed-again {new} (meets {c} {cs} e) bytes = at-job (joined c new) new cs (joined-job (joining c new) bytes e) ∙ rw (joined-again c new bytes)
 placed-again {new} (after {c} k p) bytes = rw (lt-ltb (jobOf c) (jobOf new) k) (ap (λ l. c ∷ l) (placed-again p bytes))
+
+pub placed-same : {new held : List ℕ} {above : ℕ} {cs ds : List (List ℕ)} → Placing new cs ds → HeldRising above cs → held ∈ cs → jobOf held ≡ jobOf new → joined held new ≡ held → ds ≡ cs
+placed-same last r m e f = absurd (in-none m)
+placed-same (before k) (next low h r) m e f = absurd (omega (arith, above-all (next k h r) m))
+placed-same {new} (meets {c} {cs} g) (next low h r) m e f = ⊎-elim (λ s. ap (λ l. l ∷ cs) (ap (λ l. joined l new) (sym s) ∙ f ∙ s)) (λ n. absurd (omega (arith, above-all r n))) (in-first m)
+placed-same (after {c} k p) (next low h r) m e f = ⊎-elim (λ s. absurd (omega (arith, ap jobOf s))) (λ n. ap (λ l. c ∷ l) (placed-same p r n e f)) (in-first m)

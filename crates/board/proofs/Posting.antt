@@ -1,20 +1,21 @@
--- One record that comes in, by the tests of `postOf` (`posting`): the refusals in their order, and the record that is taken. A refusal changes nothing (`unchanged`), B3 is given exactly for a new job on a full board (`full-exactly`), a board stays one whatever comes (`always-board`), and the same record again changes nothing and has the same result (`twice`).
-use mathlib.Core.Path.{_≡_, refl, ap, _∙_}
-use mathlib.Core.Bool.{Bool, true, false, cond, not}
+-- One record that comes in, by the tests of `postOf` (`posting`): the refusals in their order, and the record that is taken. A refusal changes nothing (`unchanged`), B3 is given exactly for a new job on a full board (`full-exactly`), an older record or the same one changes nothing (`older-or-same`), and any record again changes nothing and has the same result (`twice`). From the empty board on it stays a board whatever comes (`always-board`), so B0 is never given (`never-b0`).
+use mathlib.Core.Path.{_≡_, refl, sym, ap, _∙_}
+use mathlib.Core.Bool.{Bool, true, false, cond, not, true≢false}
 use mathlib.Core.List.{List, [], _∷_, List·Memᴰ·head as here, List·Memᴰ·tail as there}
-use mathlib.Core.Logic.{⊎-elim, _↔_}
+use mathlib.Core.Logic.{_⊎_, ⊎-elim, _↔_}
 use Prim.Native.Nat.{ℕ, _≤_, _<_}
 use native.Mathlib.Omega.{arith}
 use borrow.Author.Tests.{ltb-true, ltb-false, lt-ltb, le-ltb, eqb-true, eqb-false, ne-eqb}
 use lib.Dec.{ltb, eqb}
 use lib.ListN.{length}
-use Rattle.outcomes.specs.Outcomes.{jobOf, isOutcome}
+use Rattle.outcomes.specs.Outcomes.{jobOf, revisionOf, isOutcome}
 use Rattle.board.specs.declared.Posted.the-variants.{Taken, Refused}
-use Rattle.board.specs.Board.{SLOTS, isBoard, heldOn, boardOf, emptyBoard, placed, Result, refused, postOf, placedOn}
-use Rattle.board.specs.Messages.{AreBytes, AllBytes, Counts, postAll, none, NoneOf}
+use Rattle.board.specs.Board.{SLOTS, isBoard, heldOn, boardOf, emptyBoard, joined, placed, Result, refused, postOf, placedOn, numberGiven}
+use Rattle.board.specs.Messages.{_∈_, AreBytes, AllBytes, Counts, postAll, none, NoneOf}
 use Rattle.slots.proofs.Held.{outcome-held}
 use Rattle.board.proofs.Boards.{board-held, held-board, empty-board}
-use Rattle.board.proofs.Placing.{placing, placed-rising, placed-again, grown}
+use Rattle.board.proofs.Joining.{joining, joined-kept}
+use Rattle.board.proofs.Placing.{placing, placed-rising, placed-again, placed-same, grown}
 
 -- what `postOf` gives where it takes the record
 abbrev pub taking : List ℕ → List ℕ → Result
@@ -61,24 +62,37 @@ module _ (b new : List ℕ) where
       let apart : jobOf new ≡ 0 → ⊥ = λ e. omega (arith, counts .named) in
       rw (f, counts .formed, ne-eqb (jobOf new) 0 apart)
 
-  pub full-exactly : isBoard b ≡ true → Counts new → (postOf b new .posted ≡ Refused 3) ↔ ((length (heldOn b) ≡ SLOTS) × NoneOf (jobOf new) (heldOn b))
+  -- no room for it: a full board, and no slot of its job
+  pub no-room : isBoard b ≡ true → SLOTS < length (placed (heldOn b) new) → (length (heldOn b) ≡ SLOTS) × NoneOf (jobOf new) (heldOn b)
+  no-room f over =
+      let held = board-held b f in
+      ⊎-elim (λ n. (omega (arith, n .1, held .1 .0), n .0)) (λ s. absurd (omega (arith, s .1, held .1 .0))) (grown (placing (heldOn b) new) (held .0))
+
+  pub full-exactly : (postOf b new .posted ≡ Refused 3) ↔ ((isBoard b ≡ true) × (Counts new × ((length (heldOn b) ≡ SLOTS) × NoneOf (jobOf new) (heldOn b))))
   unfolding placedOn
-  full-exactly f counts =
-      let size : ℕ = length (placed (heldOn b) new) in
-      let same = judged f counts in
-      let most = board-held b f .1 .0 in
-      let how = grown (placing (heldOn b) new) (board-held b f .0) in (
-        λ e.
-            let over = ltb-true SLOTS size (by (ltb SLOTS size) (rw same at e)) in
-            ⊎-elim (λ n. (omega (arith, n .1, over, most), n .0)) (λ s. absurd (omega (arith, s .1, over, most))) how,
-        λ h.
-            let over : SLOTS < size = ⊎-elim (λ n. omega (arith, n .1, h .0)) (λ s. absurd (h .1 (s .0 .0) (s .0 .1 .0) (s .0 .1 .1))) how in
-            rw (same, lt-ltb SLOTS size over),
-      )
+  full-exactly = (
+    by posting,
+    λ h.
+        let size : ℕ = length (placed (heldOn b) new) in
+        let how = grown (placing (heldOn b) new) (board-held b (h .0) .0) in
+        let over : SLOTS < size = ⊎-elim (λ n. omega (arith, n .1, h .1 .1 .0)) (λ s. absurd (h .1 .1 .1 (s .0 .0) (s .0 .1 .0) (s .0 .1 .1))) how in
+        rw (judged (h .0) (h .1 .0), lt-ltb SLOTS size over),
+  )
     where
-      by : (over : Bool) → cond over (refused 3 b) (taking b new) .posted ≡ Refused 3 → over ≡ true
-      by true e = refl
-      by false e = cc
+      by : {o : Result} → Posting b new o → o .posted ≡ Refused 3 → (isBoard b ≡ true) × (Counts new × ((length (heldOn b) ≡ SLOTS) × NoneOf (jobOf new) (heldOn b)))
+      by (no-board f) e = absurd (omega (arith, ap numberGiven e))
+      by (malformed f g) e = absurd (omega (arith, ap numberGiven e))
+      by (unnamed f g h) e = absurd (omega (arith, ap numberGiven e))
+      by (full f counts over) e = (f, (counts, no-room f over))
+      by (taken f counts room) e = absurd (omega (arith, ap numberGiven e))
+
+  -- it changes nothing of what is held of its job
+  pub taken-same : (held : List ℕ) → isBoard b ≡ true → Counts new → held ∈ heldOn b → jobOf held ≡ jobOf new → joined held new ≡ held → postOf b new ≡ record { posted = Taken; board = b }
+  unfolding placedOn
+  taken-same held f counts i for e =
+      let on = board-held b f in
+      let same = placed-same (placing (heldOn b) new) (on .0) i for e in
+      judged f counts ∙ rw (same, le-ltb SLOTS (length (heldOn b)) (on .1 .0)) (ap (λ l. record { posted = Taken; board = l }) (sym (on .1 .1)))
 
   module _ (bytes : AreBytes new) where
     -- the board that it is taken onto is one, and holds it placed among what was held
@@ -119,6 +133,18 @@ module _ (b new : List ℕ) (bytes : AreBytes new) where
   pub twice-result : postOf (postOf b new .board) new .posted ≡ postOf b new .posted
   twice-result = ap (λ (o : Result). o .posted) both
 
+-- ---- a record that is older than what is held of its job, or the same
+
+module _ (b new held : List ℕ) (f : isBoard b ≡ true) (counts : Counts new) (i : held ∈ heldOn b) (for : jobOf held ≡ jobOf new) (how : (revisionOf new < revisionOf held) ⊎ (held ≡ new)) where
+  same : postOf b new ≡ record { posted = Taken; board = b }
+  same = taken-same b new held f counts i for (joined-kept (joining held new) how)
+
+  pub older-or-same : postOf b new .board ≡ b
+  older-or-same = ap (λ (o : Result). o .board) same
+
+  pub older-or-same-taken : postOf b new .posted ≡ Taken
+  older-or-same-taken = ap (λ (o : Result). o .posted) same
+
 -- ---- any number of records, of any number of jobs
 
 pub starts-board : (isBoard emptyBoard ≡ true) × (heldOn emptyBoard ≡ [])
@@ -131,3 +157,14 @@ from b (m ∷ ms) f all = from (postOf b m .board) ms (stays-board b m (all m (h
 
 pub always-board : (ms : List (List ℕ)) → AllBytes ms → isBoard (postAll emptyBoard ms) ≡ true
 always-board ms all = from emptyBoard ms (starts-board .0) all
+
+-- so none is ever refused B0
+pub never-b0 : (ms : List (List ℕ)) (m : List ℕ) → AllBytes ms → postOf (postAll emptyBoard ms) m .posted ≡ Refused 0 → ⊥
+never-b0 ms m all e = by (posting (postAll emptyBoard ms) m) e
+  where
+    by : {o : Result} → Posting (postAll emptyBoard ms) m o → o .posted ≡ Refused 0 → ⊥
+    by (no-board f) e = true≢false (sym (always-board ms all) ∙ f)
+    by (malformed f g) e = omega (arith, ap numberGiven e)
+    by (unnamed f g h) e = omega (arith, ap numberGiven e)
+    by (full f counts over) e = omega (arith, ap numberGiven e)
+    by (taken f counts room) e = omega (arith, ap numberGiven e)

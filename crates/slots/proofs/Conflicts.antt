@@ -1,4 +1,4 @@
--- A conflict's bytes: their number, what is read back from them, and that a slot may hold them though they are no outcome. `number-lt` bounds any number of w bytes.
+-- A conflict's bytes: their number, what is read back from them, that they are a conflict, and that a slot may hold them though they are no outcome. `number-lt` bounds any number of w bytes.
 use mathlib.Core.Path.{_≡_, refl, sym, ap, _∙_, subst}
 use mathlib.Core.Bool.{true, false}
 use mathlib.Core.List.{List, [], _∷_, _++_}
@@ -40,6 +40,10 @@ module _ (j v : ℕ) where
   pub conflict-no-outcome : isOutcome (conflictBytes j v) ≡ false
   unfolding isOutcome isRefusal isAnswer conflictBytes conflictFields encode bytesOf numberAt
   conflict-no-outcome = refl
+
+  pub conflict-is : isConflict (conflictBytes j v) ≡ true
+  unfolding isConflict isSized conflictBytes conflictFields encode bytesOf numberAt
+  conflict-is = refl
 
   pub conflict-held : isHeld (conflictBytes j v) ≡ true
   unfolding isHeld isConflict isSized isOutcome isRefusal isAnswer conflictBytes conflictFields encode bytesOf numberAt

@@ -1,10 +1,10 @@
--- What a slot may hold, and its slot: the one is read from the other, both ways (`content-back`, `slot-back`).
+-- What a slot may hold, and its slot: the one is read from the other, both ways (`content-back`, `slot-back`). Of the two kinds that it may hold, an outcome is no conflict (`outcome-no-conflict`).
 use mathlib.Core.Path.{_≡_, refl, sym, ap, _∙_}
 use mathlib.Core.Bool.{Bool, true, false, _&&_, _||_}
 use mathlib.Core.List.{List, _++_}
 use Prim.Native.Nat.{ℕ, _+_, _-_, _≤_}
 use native.Mathlib.Omega.{arith}
-use borrow.Author.Tests.{eqb-true, leb-true}
+use borrow.Author.Tests.{eqb-true, ne-eqb, leb-true}
 use lib.Dec.{eqb, leb}
 use lib.ListN.{length, take, drop, replicate, length-take, length-drop, take-append-drop}
 use lib.Seq.{take-at, drop-at}
@@ -17,6 +17,33 @@ use Rattle.slots.proofs.Zeros.{both, zero-is, zeros-zero, zero-number}
 pub outcome-held : (c : List ℕ) → isOutcome c ≡ true → isHeld c ≡ true
 unfolding isHeld
 outcome-held c e = rw e
+
+either : {P : Type 0} (a b : Bool) → (a ≡ true → P) → (b ≡ true → P) → a || b ≡ true → P
+either true b f g e = f refl
+either false b f g e = g e
+
+-- an outcome is no conflict: its kind is another
+pub outcome-no-conflict : (c : List ℕ) → isOutcome c ≡ true → isConflict c ≡ false
+unfolding isOutcome isRefusal isAnswer isConflict
+outcome-no-conflict c e = either (isRefusal c) (isAnswer c) refusal answer e
+  where
+    kind : ℕ
+    kind = valueOf KIND c
+
+    n : ℕ
+    n = valueOf LAST c
+
+    other : (k : ℕ) → (k ≡ 4 → ⊥) → eqb kind k ≡ true → isConflict c ≡ false
+    other k apart f = rw (ne-eqb kind 4 (λ g. apart (sym (eqb-true kind k f) ∙ g)))
+
+    refusal : isRefusal c ≡ true → isConflict c ≡ false
+    refusal f = other 3 (λ g. omega arith) (both (eqb kind 3) (isSized c headSize) (both (eqb kind 3 && isSized c headSize) (isBetween 1 14 n) f .0) .0)
+
+    answer : isAnswer c ≡ true → isConflict c ≡ false
+    answer f =
+        let sized = isSized c (answerSize n) in
+        let few = isBetween 1 mostEntries n in
+        other 2 (λ g. omega arith) (both (eqb kind 2) few (both (eqb kind 2 && few) sized (both (eqb kind 2 && few && sized) (allNameAnEnd n c) f .0) .0) .0)
 
 -- ---- sizes
 
@@ -52,10 +79,6 @@ answer-sizes c e =
 conflict-sizes : (c : List ℕ) → isConflict c ≡ true → Sizes c
 unfolding isConflict
 conflict-sizes c e = sized c 14 (omega arith) (omega arith) (both (eqb (valueOf KIND c) 4) (isSized c 14) e .1)
-
-either : {P : Type 0} (a b : Bool) → (a ≡ true → P) → (b ≡ true → P) → a || b ≡ true → P
-either true b f g e = f refl
-either false b f g e = g e
 
 held-sizes : (c : List ℕ) → isHeld c ≡ true → Sizes c
 unfolding isHeld isOutcome
