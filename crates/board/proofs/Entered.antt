@@ -23,8 +23,7 @@ use Rattle.board.specs.declared.moves.Route.{Route}
 use Rattle.board.specs.declared.moves.Route.the-variants.{Joins, Enters, NoneFree}
 use Rattle.board.specs.declared.Posted.{Posted}
 use Rattle.board.specs.declared.Posted.the-variants.{Taken, Refused}
-use Rattle.board.specs.Messages.{HeldRising, none, next}
-use Rattle.board.specs.Board.{SLOTS, boardSize, inOrder, isBoard, heldOn, slotsBytes, boardOf, joined, placed, placedOn}
+use Rattle.board.specs.Board.{SLOTS, boardSize, inOrder, isBoard, heldOn, slotsBytes, boardOf, joined, placed, placedOn, HeldRising, none, next}
 use Rattle.board.specs.Internals.{slotsBeforeFree, slotsBelow, routeOf, movedUp}
 use Rattle.board.proofs.Boards.{one-more, zeros, padded-append, slotsIn, slots-next, slots-none, board-held}
 

@@ -2,13 +2,3 @@ pub mod Boards
 mod Checked
 mod Moved
 mod Entered
-mod Joining
-pub mod Placing
-pub mod Posting
-mod Few
-mod Keeping
-pub mod Standing
-pub mod Order
-pub mod Highest
-pub mod Again
-pub mod ClosedCases

@@ -1,12 +1,13 @@
 -- A board of outcomes, one for each job, and what a record that comes in makes of it (02, A1). Definitions only.
-use Prim.Native.Nat.{ℕ, zero, suc, _*_}
+use mathlib.Core.Path.{_≡_}
+use Prim.Native.Nat.{ℕ, zero, suc, _*_, _<_}
 use mathlib.Core.Bool.{Bool, true, cond, not, _&&_, _||_}
 use mathlib.Core.List.{List, [], _∷_, _++_}
 use lib.Dec.{eqb, ltb}
 use lib.ListN.{length, take, drop, replicate}
 use Rattle.records.specs.Layout.{answerRoom}
 use Rattle.outcomes.specs.Outcomes.{jobOf, revisionOf, isOutcome}
-use Rattle.slots.specs.Slots.{padded, slotOf, contentOf, conflictBytes, isZero, isFilled, sameBytes}
+use Rattle.slots.specs.Slots.{padded, slotOf, contentOf, conflictBytes, isHeld, isZero, isFilled, sameBytes}
 use Rattle.board.specs.declared.Posted.{Posted}
 use Rattle.board.specs.declared.Posted.the-variants.{Taken, Refused}
 
@@ -49,6 +50,11 @@ boardOf held = padded boardSize (slotsBytes held)
 -- a board starts as all zeros
 unfoldable pub emptyBoard : List ℕ
 emptyBoard = replicate boardSize 0
+
+-- what may stand in slots, in rising job number above a job
+pub data HeldRising : ℕ → List (List ℕ) → Type 0 where
+  none : {above : ℕ} → HeldRising above []
+  next : {above : ℕ} {c : List ℕ} {cs : List (List ℕ)} → above < jobOf c → isHeld c ≡ true → HeldRising (jobOf c) cs → HeldRising above (c ∷ cs)
 
 -- ---- a record that comes in
 

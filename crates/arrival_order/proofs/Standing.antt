@@ -7,13 +7,13 @@ use Prim.Native.Nat.{ℕ, _<_}
 use native.Mathlib.Omega.{arith}
 use lib.ListN.{length}
 use Rattle.outcomes.specs.Outcomes.{jobOf}
-use Rattle.board.specs.Board.{SLOTS, isBoard, heldOn, emptyBoard, Result, postOf}
-use Rattle.board.specs.Messages.{postAll, _∈_, SameMessages, AreBytes, AllBytes, Counts, OverFewJobs, SomeOf, NoneOf, Holds, After, none}
+use Rattle.board.specs.Board.{SLOTS, isBoard, heldOn, emptyBoard, Result, postOf, none}
+use Rattle.arrival_order.specs.Messages.{postAll, _∈_, SameMessages, AreBytes, AllBytes, Counts, OverFewJobs, SomeOf, NoneOf, Holds, After}
 use Rattle.board.proofs.Boards.{board-held}
-use Rattle.board.proofs.Placing.{placing, grown}
-use Rattle.board.proofs.Posting.{Posting, no-board, malformed, unnamed, full, taken, posting, no-room, taken-board, starts-board, always-board}
-use Rattle.board.proofs.Few.{few}
-use Rattle.board.proofs.Keeping.{never, some-came, Keeps, keeps-same, keeps-refused, keeps-more}
+use Rattle.arrival_order.proofs.Placing.{placing, grown}
+use Rattle.arrival_order.proofs.Posting.{Posting, no-board, malformed, unnamed, full, taken, posting, no-room, taken-board, starts-board, always-board}
+use Rattle.arrival_order.proofs.Few.{few}
+use Rattle.arrival_order.proofs.Keeping.{never, some-came, Keeps, keeps-same, keeps-refused, keeps-more}
 
 -- a board that keeps what was seen
 record On (seen : List (List ℕ)) (b : List ℕ) : Type 0 where

@@ -6,13 +6,13 @@ use Prim.Native.Nat.{ℕ}
 use native.Mathlib.Omega.{arith}
 use Rattle.outcomes.specs.Outcomes.{jobOf}
 use Rattle.slots.specs.Slots.{conflictBytes}
 use Rattle.board.specs.Board.{heldOn, emptyBoard, Result, postOf}
-use Rattle.board.specs.Messages.{postAll, _∈_, AllBytes, CameFor, Holds, SomeOf}
-use Rattle.board.proofs.Joining.{Joining, newer, older, again, clash, joining}
-use Rattle.board.proofs.Placing.{placing, grown}
-use Rattle.board.proofs.Posting.{Posting, no-board, malformed, unnamed, full, taken, posting, taken-same}
-use Rattle.board.proofs.Keeping.{conflict-at, none-higher, Keeps}
-use Rattle.board.proofs.Standing.{keeps-always}
+use Rattle.arrival_order.specs.Messages.{postAll, _∈_, AllBytes, CameFor, Holds, SomeOf}
+use Rattle.arrival_order.proofs.Joining.{Joining, newer, older, again, clash, joining}
+use Rattle.arrival_order.proofs.Placing.{placing, grown}
+use Rattle.arrival_order.proofs.Posting.{Posting, no-board, malformed, unnamed, full, taken, posting, taken-same}
+use Rattle.arrival_order.proofs.Keeping.{conflict-at, none-higher, Keeps}
+use Rattle.arrival_order.proofs.Standing.{keeps-always}
 
 module _ (ms : List (List ℕ)) (m : List ℕ) (bytes : AllBytes ms) where
   holds-again : {held c : List ℕ} → Joining held m c → Holds ms (jobOf m) held → CameFor ms (jobOf m) m → c ≡ held

@@ -10,9 +10,9 @@ use lib.Dec.{ltb, eqb}
 use lib.ListN.{length}
 use Rattle.outcomes.specs.Outcomes.{jobOf}
 use Rattle.slots.specs.Slots.{isHeld}
-use Rattle.board.specs.Board.{joined, placed}
-use Rattle.board.specs.Messages.{_∈_, AreBytes, HeldRising, none, next, SomeOf, NoneOf}
-use Rattle.board.proofs.Joining.{joining, joined-job, joined-held, joined-self, joined-again}
+use Rattle.board.specs.Board.{joined, placed, HeldRising, none, next}
+use Rattle.arrival_order.specs.Messages.{_∈_, AreBytes, SomeOf, NoneOf}
+use Rattle.arrival_order.proofs.Joining.{joining, joined-job, joined-held, joined-self, joined-again}
 
 pub data Placing (new : List ℕ) : List (List ℕ) → List (List ℕ) → Type 0 where
   last : Placing new [] (new ∷ [])

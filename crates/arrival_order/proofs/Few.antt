@@ -6,8 +6,9 @@ use Prim.Native.Nat.{ℕ, suc, _<_}
 use native.Mathlib.Omega.{arith}
 use lib.ListN.{length}
 use Rattle.outcomes.specs.Outcomes.{jobOf}
-use Rattle.board.specs.Messages.{_∈_, HeldRising, none, next, NoneOf}
-use Rattle.board.proofs.Placing.{above-all}
+use Rattle.board.specs.Board.{HeldRising, none, next}
+use Rattle.arrival_order.specs.Messages.{_∈_, NoneOf}
+use Rattle.arrival_order.proofs.Placing.{above-all}
 
 -- a list with one number less, which still has every other
 without : {j : ℕ} {js : List ℕ} → List·Memᴰ j js → (ks : List ℕ) × ((length js ≡ suc (length ks)) × ((k : ℕ) → List·Memᴰ k js → (k ≡ j → ⊥) → List·Memᴰ k ks))

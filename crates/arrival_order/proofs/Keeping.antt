@@ -8,12 +8,12 @@ use native.Mathlib.Omega.{arith}
 use lib.ListN.{length}
 use Rattle.outcomes.specs.Outcomes.{jobOf, revisionOf, isOutcome}
 use Rattle.slots.specs.Slots.{conflictBytes}
-use Rattle.board.specs.Board.{SLOTS, placed}
-use Rattle.board.specs.Messages.{_∈_, AreBytes, AllBytes, Counts, CameFor, OneRecord, InConflict, TwoDiffer, Holds, HeldRising, SomeOf, NoneOf}
+use Rattle.board.specs.Board.{SLOTS, placed, HeldRising}
+use Rattle.arrival_order.specs.Messages.{_∈_, AreBytes, AllBytes, Counts, CameFor, OneRecord, InConflict, TwoDiffer, Holds, SomeOf, NoneOf}
 use Rattle.slots.proofs.Conflicts.{conflict-revision, conflict-no-outcome}
 use Rattle.slots.proofs.Held.{outcome-held}
-use Rattle.board.proofs.Joining.{small-revision, Joining, newer, older, again, clash, joining, joined-job}
-use Rattle.board.proofs.Placing.{placing, placed-rising, Comes, kept, first, met, comes, stays, arrives, Grown, grown}
+use Rattle.arrival_order.proofs.Joining.{small-revision, Joining, newer, older, again, clash, joining, joined-job}
+use Rattle.arrival_order.proofs.Placing.{placing, placed-rising, Comes, kept, first, met, comes, stays, arrives, Grown, grown}
 
 -- no test is both passed and failed
 pub never : {P : Type 0} {t : Bool} → t ≡ true → t ≡ false → P

@@ -9,13 +9,13 @@ use borrow.Author.Tests.{ltb-true, ltb-false, lt-ltb, le-ltb, eqb-true, eqb-fals
 use lib.Dec.{ltb, eqb}
 use lib.ListN.{length}
 use Rattle.outcomes.specs.Outcomes.{jobOf, revisionOf, isOutcome}
 use Rattle.board.specs.declared.Posted.the-variants.{Taken, Refused}
-use Rattle.board.specs.Board.{SLOTS, isBoard, heldOn, boardOf, emptyBoard, joined, placed, Result, refused, postOf, placedOn, numberGiven}
-use Rattle.board.specs.Messages.{_∈_, AreBytes, AllBytes, Counts, postAll, none, NoneOf}
+use Rattle.board.specs.Board.{SLOTS, isBoard, heldOn, boardOf, emptyBoard, joined, placed, Result, refused, postOf, placedOn, numberGiven, none}
+use Rattle.arrival_order.specs.Messages.{_∈_, AreBytes, AllBytes, Counts, postAll, NoneOf}
 use Rattle.slots.proofs.Held.{outcome-held}
 use Rattle.board.proofs.Boards.{board-held, held-board, empty-board}
-use Rattle.board.proofs.Joining.{joining, joined-kept}
-use Rattle.board.proofs.Placing.{placing, placed-rising, placed-again, placed-same, grown}
+use Rattle.arrival_order.proofs.Joining.{joining, joined-kept}
+use Rattle.arrival_order.proofs.Placing.{placing, placed-rising, placed-again, placed-same, grown}
 
 -- what `postOf` gives where it takes the record
 abbrev pub taking : List ℕ → List ℕ → Result

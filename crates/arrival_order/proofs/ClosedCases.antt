@@ -13,11 +13,11 @@ use Rattle.outcomes.specs.Outcomes.{isSized, isRefusal, isOutcome}
 use Rattle.slots.specs.Slots.{conflictFields, conflictBytes, sameBytes}
 use Rattle.slots.proofs.Padding.{padded-is}
 use Rattle.slots.proofs.Zeros.{both}
 use Rattle.board.specs.declared.Posted.the-variants.{Taken}
 use Rattle.board.specs.Board.{SLOTS, boardSize, isBoard, heldOn, boardOf, emptyBoard, joined, placed, placedOn, postOf}
-use Rattle.board.specs.Messages.{AreBytes, Counts}
+use Rattle.arrival_order.specs.Messages.{AreBytes, Counts}
 use Rattle.board.proofs.Boards.{zeros, slotsIn, slots-next, slots-none}
-use Rattle.board.proofs.Posting.{judged, taken-board, starts-board}
+use Rattle.arrival_order.proofs.Posting.{judged, taken-board, starts-board}
 
 -- ---- the bytes of a board with one slot filled
 

@@ -6,8 +6,8 @@ use mathlib.Core.List.{List, [], _∷_, List·Memᴰ}
 use mathlib.Core.Logic.{_⊎_}
 use lib.ListN.{length, getD}
 use Rattle.outcomes.specs.Outcomes.{jobOf, revisionOf, isOutcome}
-use Rattle.slots.specs.Slots.{conflictBytes, isHeld}
+use Rattle.slots.specs.Slots.{conflictBytes}
 use Rattle.board.specs.Board.{SLOTS, isBoard, heldOn, boardOf, postOf}
 
 -- the board after messages that come one after another
 unfoldable pub postAll : List ℕ → List (List ℕ) → List ℕ
@@ -25,11 +25,6 @@ SomeOf job cs = (c : List ℕ) × ((c ∈ cs) × (jobOf c ≡ job))
 
 abbrev pub NoneOf : ℕ → List (List ℕ) → Type 0
 NoneOf job cs = (c : List ℕ) → c ∈ cs → jobOf c ≡ job → ⊥
-
--- what may stand in slots, in rising job number above a job
-pub data HeldRising : ℕ → List (List ℕ) → Type 0 where
-  none : {above : ℕ} → HeldRising above []
-  next : {above : ℕ} {c : List ℕ} {cs : List (List ℕ)} → above < jobOf c → isHeld c ≡ true → HeldRising (jobOf c) cs → HeldRising above (c ∷ cs)
 
 -- the same messages, in any order and with any repeats
 pub record SameMessages (ms ns : List (List ℕ)) : Type 0 where

@@ -9,8 +9,8 @@ use borrow.Author.Tests.{ltb-true, ltb-false, le-ltb}
 use lib.Dec.{ltb}
 use Rattle.outcomes.specs.Outcomes.{jobOf, revisionOf}
 use Rattle.slots.specs.Slots.{conflictBytes, isHeld, sameBytes}
 use Rattle.board.specs.Board.{joined}
-use Rattle.board.specs.Messages.{AreBytes}
+use Rattle.arrival_order.specs.Messages.{AreBytes}
 use Rattle.slots.proofs.Zeros.{same-is, same-self, differ-is}
 use Rattle.slots.proofs.Conflicts.{number-lt, conflict-job, conflict-revision, conflict-held}
 

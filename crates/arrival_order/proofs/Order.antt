@@ -6,12 +6,12 @@ use Prim.Native.Nat.{ℕ}
 use native.Mathlib.Omega.{arith}
 use Rattle.outcomes.specs.Outcomes.{jobOf, revisionOf}
 use Rattle.slots.specs.Slots.{conflictBytes}
-use Rattle.board.specs.Board.{heldOn, boardOf, emptyBoard}
-use Rattle.board.specs.Messages.{postAll, _∈_, SameMessages, AllBytes, OverFewJobs, Holds, After, HeldRising, none, next}
+use Rattle.board.specs.Board.{heldOn, boardOf, emptyBoard, HeldRising, none, next}
+use Rattle.arrival_order.specs.Messages.{postAll, _∈_, SameMessages, AllBytes, OverFewJobs, Holds, After}
 use Rattle.board.proofs.Boards.{board-held}
-use Rattle.board.proofs.Placing.{above-all}
-use Rattle.board.proofs.Keeping.{some-came, not-one}
-use Rattle.board.proofs.Standing.{stands, stands-for}
+use Rattle.arrival_order.proofs.Placing.{above-all}
+use Rattle.arrival_order.proofs.Keeping.{some-came, not-one}
+use Rattle.arrival_order.proofs.Standing.{stands, stands-for}
 
 pub one-held : {ms : List (List ℕ)} {job : ℕ} {c d : List ℕ} → Holds ms job c → Holds ms job d → c ≡ d
 one-held {c} {d} (inl o) (inl p) = ⊎-elim (λ e. e) (λ l. ⊎-elim sym (λ k. absurd (omega arith)) (o .highest d (p .came))) (p .highest c (o .came))
