@@ -1,6 +1,6 @@
 // Whether bytes are a board.
 ghost use mathlib.Core.Path.{_≡_};
-ghost use Prim.Native.Nat.{_*_, _≤_};
+ghost use Prim.Native.Nat.{_≤_};
 ghost use lib.ListN.{length};
 ghost use Rattle.board.specs.Board.{boardSize, isBoard};
 ghost use Rattle.board.specs.Internals.{slotsBeforeFree, filledRising};

@@ -1,9 +1,6 @@
 // A board of outcomes in lent bytes: 64 slots, one for each job, in rising job number (02, A1).
 ghost use mathlib.Core.Path.{_≡_};
-ghost use mathlib.Core.Bool.{true};
-ghost use Prim.Native.Nat.{_≤_, _<_};
-ghost use lib.ListN.{length};
-ghost use Rattle.board.specs.Board.{isBoard, postOf};
+ghost use Rattle.board.specs.Board.{postOf};
 
 mod checks;
 mod host;

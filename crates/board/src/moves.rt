@@ -2,9 +2,8 @@
 // its own job.
 ghost use mathlib.Core.Path.{_≡_};
 ghost use mathlib.Core.Bool.{true};
-ghost use Prim.Native.Nat.{_+_, _*_, _-_, _≤_, _<_};
-ghost use lib.ListN.{length, take, drop};
-ghost use mathlib.Core.List.{_++_};
+ghost use Prim.Native.Nat.{_+_, _≤_};
+ghost use lib.ListN.{length};
 ghost use Rattle.records.specs.Layout.{answerRoom};
 ghost use Rattle.slots.specs.Slots.{slotOf, contentOf};
 ghost use Rattle.board.specs.Board.{boardSize, isBoard, joined, placedOn};
@@ -116,7 +115,7 @@ fn join(slot: &mut [u8], message: &[u8])
 
 // Moves the bytes between two places up by one slot.
 fn move_up(board: &mut [u8], from: usize, to: usize)
-    requires { ⌜ (from ≤ to) × (to + 528 ≤ length (now board)) ⌝ }
+    requires { ⌜ (from ≤ to) × (to + answerRoom ≤ length (now board)) ⌝ }
     ensures { λ _. ⌜ now (board .exit) ≡ movedUp from to (now (board .entry)) ⌝ }
 {
     let mut i = to;

@@ -6,6 +6,10 @@ use little_endian::u16_at;
 use little_endian::u32_at;
 use records::ENTRY_SIZE;
 use records::HEAD_SIZE;
+use records::MOST_ENTRIES;
+
+// The last number of refusal in force.
+const LAST_NUMBER: u16 = 14;
 
 // Whether bytes are an answer or a refusal, and not malformed.
 pub fn is_outcome(s: &[u8]) -> bool
@@ -18,14 +22,14 @@ fn is_refusal(s: &[u8]) -> bool
     ensures { λ r. ⌜ r ≡ isRefusal (now (s .entry)) ⌝ }
 {
     let number = u16_at(s, 14);
-    (u16_at(s, 4) == 3) & is_sized(s, HEAD_SIZE) & ((1 <= number) & (number <= 14))
+    (u16_at(s, 4) == 3) & is_sized(s, HEAD_SIZE) & ((1 <= number) & (number <= LAST_NUMBER))
 }
 
 fn is_answer(s: &[u8]) -> bool
     ensures { λ r. ⌜ r ≡ isAnswer (now (s .entry)) ⌝ }
 {
     let n = u16_at(s, 14) as usize;
-    if n < 1 || 8 < n {
+    if n < 1 || MOST_ENTRIES < n {
         return false;
     }
     (u16_at(s, 4) == 2) & is_sized(s, HEAD_SIZE + ENTRY_SIZE * n) & name_ends(s, n)

@@ -69,7 +69,7 @@ fn post_next(board: &mut [u8], bytes: &mut [u8], place: u64) -> Next
             if LONGEST < rest {
                 say(
                     place,
-                    b"B1: no record has its length, and nothing tells where the next one starts",
+                    b"B1: no record has its length, so nothing tells where the next starts, and no board is written",
                 );
                 return Next::Failed;
             }

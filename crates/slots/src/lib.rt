@@ -1,6 +1,6 @@
 // One slot of a board: what it holds, and filling it (02, A1).
 ghost use mathlib.Core.Path.{_≡_};
-ghost use Prim.Native.Nat.{_+_, _≤_, min};
+ghost use Prim.Native.Nat.{min};
 ghost use lib.ListN.{length};
 ghost use Rattle.slots.specs.Slots.{padded, sizeIn, conflictBytes, isConflict, isHeld, isFilled};
 
