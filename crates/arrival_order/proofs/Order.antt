@@ -4,7 +4,7 @@ use mathlib.Core.List.{List, List·Memᴰ·head as here, List·Memᴰ·tail as t
 use mathlib.Core.Logic.{inl, inr, ⊎-elim}
 use Prim.Native.Nat.{ℕ}
 use native.Mathlib.Omega.{arith}
-use Rattle.outcomes.specs.Outcomes.{jobOf, revisionOf}
+use Rattle.outcomes.specs.Outcomes.{jobOf}
 use Rattle.slots.specs.Slots.{conflictBytes}
 use Rattle.board.specs.Board.{heldOn, boardOf, emptyBoard, HeldRising, none, next}
 use Rattle.arrival_order.specs.Messages.{postAll, _∈_, SameMessages, AllBytes, OverFewJobs, Holds, After}

@@ -11,7 +11,7 @@ use lib.ListN.{length, take, drop, replicate, length-append, length-drop, length
 use lib.Seq.{take-all, take-at, drop-at, take-append-le, take-append-add, length-take-le}
 use Rattle.records.specs.Layout.{answerRoom}
 use Rattle.outcomes.specs.Outcomes.{jobOf}
-use Rattle.slots.specs.Slots.{padded, slotOf, contentOf, isHeld, isFilled, isZero}
+use Rattle.slots.specs.Slots.{padded, slotOf, contentOf, isFilled, isZero}
 use Rattle.slots.proofs.Padding.{padded-length}
 use Rattle.slots.proofs.Zeros.{both, zero-is, zeros-zero, zero-append}
 use Rattle.slots.proofs.Held.{content-back, slot-filled, slot-not-zero, slot-job, content-held, slot-back, content-job}

@@ -1,24 +1,24 @@
 -- A board checked slot by slot is checked as `isBoard` says: up to the first slot whose length is 0 each is filled and the jobs rise, and all
 -- after it are zeros (`checked`). One slot more of each count and test (`named-next`, `rising-next`, `below-next`) is a turn of its loop.
 use mathlib.Core.Path.{_≡_, refl, sym, ap, _∙_}
-use mathlib.Core.Bool.{Bool, true, false, cond, _&&_, _||_, and-assoc, or-false}
+use mathlib.Core.Bool.{Bool, true, false, cond, _&&_, and-assoc, or-false}
 use mathlib.Core.List.{List, [], _∷_}
-use Prim.Native.Nat.{ℕ, zero, suc, _+_, _-_, _*_, _≤_, _<_}
+use Prim.Native.Nat.{ℕ, zero, suc, _+_, _-_, _*_, _<_}
 use native.Mathlib.Omega.{arith}
 use native.Mathlib.Nat.{add-zero}
-use borrow.Author.Tests.{eqb-true, eqb-false, eq-eqb, ne-eqb, ltb-false}
+use borrow.Author.Tests.{eqb-true, eqb-false}
 use lib.Dec.{ltb, eqb}
 use lib.ListN.{length, take, drop, length-drop}
 use lib.Seq.{drop-drop, length-take-le}
 use Rattle.little_endian.specs.Bytes.{numberAt}
 use Rattle.records.specs.Layout.{LENGTH, answerRoom, valueOf}
 use Rattle.outcomes.specs.Outcomes.{jobOf}
-use Rattle.slots.specs.Slots.{contentOf, slotOf, isFilled, isZero}
+use Rattle.slots.specs.Slots.{contentOf, isFilled, isZero}
 use Rattle.slots.proofs.Padding.{number-take, number-drop}
 use Rattle.slots.proofs.Zeros.{zero-number}
 use Rattle.slots.proofs.Held.{slot-named, content-held, slot-back}
 use Rattle.board.proofs.Boards.{one-more}
-use Rattle.board.specs.Board.{inOrder, heldIn}
+use Rattle.board.specs.Board.{inOrder}
 use Rattle.board.specs.Internals.{slotsBeforeFree, filledRising, slotsBelow}
 
 -- a filled slot has a length that is not 0

@@ -6,12 +6,11 @@ use mathlib.Core.List.{List, [], _∷_, _++_, append-assoc, append-nil}
 use mathlib.Core.Logic.{_⊎_, inl, inr}
 use Prim.Native.Nat.{ℕ, zero, suc, _+_, _-_, _*_, _≤_, _<_}
 use native.Mathlib.Omega.{arith}
-use native.Mathlib.Nat.{add-zero}
 use borrow.Author.Tests.{ltb-true, ltb-false, lt-ltb, le-ltb, eqb-true, eqb-false, eq-eqb, ne-eqb}
-use borrow.Rule.Slice.PartMut.{midOf, postOf, putMid}
+use borrow.Rule.Slice.PartMut.{midOf, putMid}
 use lib.Dec.{ltb, eqb}
-use lib.ListN.{length, take, drop, replicate, getD, length-append, length-drop, length-replicate, take-append-drop, replicate-append-replicate}
-use lib.Seq.{take-all, take-at, drop-at, drop-drop, take-append-le, take-append-add, drop-append-add, length-take-le, drop-append-le, take-take}
+use lib.ListN.{length, take, drop, length-append, length-drop, length-replicate, take-append-drop, replicate-append-replicate}
+use lib.Seq.{take-at, drop-at, drop-drop, take-append-le, length-take-le, take-take}
 use Rattle.little_endian.specs.Bytes.{numberAt}
 use Rattle.records.specs.Layout.{LENGTH, answerRoom, valueOf}
 use Rattle.outcomes.specs.Outcomes.{jobOf}
@@ -23,7 +22,7 @@ use Rattle.board.specs.declared.moves.Route.{Route}
 use Rattle.board.specs.declared.moves.Route.the-variants.{Joins, Enters, NoneFree}
 use Rattle.board.specs.declared.Posted.{Posted}
 use Rattle.board.specs.declared.Posted.the-variants.{Taken, Refused}
-use Rattle.board.specs.Board.{SLOTS, boardSize, inOrder, isBoard, heldOn, slotsBytes, boardOf, joined, placed, placedOn, HeldRising, none, next}
+use Rattle.board.specs.Board.{SLOTS, boardSize, inOrder, isBoard, heldOn, slotsBytes, boardOf, joined, placed, placedOn, HeldRising, next}
 use Rattle.board.specs.Internals.{slotsBeforeFree, slotsBelow, routeOf, movedUp}
 use Rattle.board.proofs.Boards.{one-more, zeros, padded-append, slotsIn, slots-next, slots-none, board-held}
 

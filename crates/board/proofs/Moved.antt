@@ -1,12 +1,11 @@
 -- Bytes moved up by a slot, one at a time from the last on: what has been moved so far is `movedUp` from a later place, and one byte
 -- more moves that place down by one (`move-next`).
-use mathlib.Core.Path.{_≡_, refl, sym, ap, _∙_}
-use mathlib.Core.List.{List, [], _∷_, _++_, append-assoc, append-nil}
-use Prim.Native.Nat.{ℕ, zero, suc, _+_, _-_, _*_, _≤_, _<_}
+use mathlib.Core.Path.{_≡_, sym, ap, _∙_}
+use mathlib.Core.List.{List, _∷_, _++_, append-assoc, append-nil}
+use Prim.Native.Nat.{ℕ, suc, _+_, _-_, _≤_, _<_}
 use native.Mathlib.Omega.{arith}
-use native.Mathlib.Numerals.{add-one}
 use lib.ListN.{length, take, drop, getD, set, length-append, length-drop, take-append-drop, List·getD-append}
-use lib.Seq.{take-suc, drop-cons, length-take-le, set-at, getD-take, append-snoc}
+use lib.Seq.{take-suc, drop-cons, length-take-le, set-at, getD-take}
 use Rattle.records.specs.Layout.{answerRoom}
 use Rattle.board.specs.Internals.{movedUp}
 

@@ -3,7 +3,7 @@ use Prim.Native.Nat.{ℕ, zero, suc, _+_, _-_, _*_}
 use mathlib.Core.Bool.{Bool, true, cond, _&&_}
 use mathlib.Core.List.{List, _++_}
 use lib.Dec.{eqb, ltb}
-use lib.ListN.{length, take, drop}
+use lib.ListN.{take, drop}
 use Rattle.little_endian.specs.Bytes.{numberAt}
 use Rattle.records.specs.Layout.{LENGTH, JOB, answerRoom, valueOf}
 use Rattle.outcomes.specs.Outcomes.{jobOf, revisionOf}

@@ -1,5 +1,5 @@
 -- Which bytes are an outcome in force: an answer (kind 2) or a refusal (kind 3) that is not malformed (02, A1). Definitions only.
-use Prim.Native.Nat.{ℕ, zero, suc, _+_, _*_}
+use Prim.Native.Nat.{ℕ, zero, suc, _+_}
 use mathlib.Core.Bool.{Bool, true, _&&_, _||_}
 use mathlib.Core.List.{List}
 use lib.Dec.{eqb, leb}

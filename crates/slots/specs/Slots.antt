@@ -3,7 +3,7 @@ use Prim.Native.Nat.{ℕ, _+_}
 use mathlib.Core.Bool.{Bool, true, false, _&&_, _||_}
 use mathlib.Core.List.{List, [], _∷_, _++_}
 use lib.Dec.{eqb}
-use lib.ListN.{length, take, drop, replicate}
+use lib.ListN.{take, drop, replicate}
 use Rattle.records.specs.Layout.{Field, LENGTH, KIND, JOB, REVISION, answerRoom, valueOf, encode}
 use Rattle.outcomes.specs.Outcomes.{isSized, isOutcome}
 

@@ -1,11 +1,10 @@
 -- `post` meets its contract: the refusals in their order, and then `place`.
-use mathlib.Core.Path.{_≡_, refl, sym, ap, _∙_}
+use mathlib.Core.Path.{_≡_, refl, sym, _∙_}
 use mathlib.Core.Bool.{true, false}
-use Prim.Native.Nat.{ℕ}
 use borrow.Author.Needs.{needs}
 use borrow.Author.Tests.{not-true, not-false, eq-eqb, ne-eqb}
-use Rattle.outcomes.specs.Outcomes.{jobOf, isOutcome}
-use Rattle.board.specs.Board.{isBoard, postOf, placedOn}
+use Rattle.outcomes.specs.Outcomes.{isOutcome}
+use Rattle.board.specs.Board.{isBoard, postOf}
 use Rattle.board.proofs.post.Statement.{statement}
 use Rattle.board.proofs.post.Tie as tie
 

@@ -1,7 +1,5 @@
 -- `run_list` ends: the measure is how many turns are left.
-use Prim.Native.Nat.{ℕ}
 use mathlib.Core.Path.{_≡_}
-use native.Mathlib.Omega.{arith}
 use borrow.Author.Needs.{needs}
 use lib.ListN.{length}
 use Rattle.board_vectors.proofs.run_list.Statement.{statement}

@@ -1,7 +1,5 @@
 -- `post_all` ends: the buffer keeps its size, and the measure is how many turns are left.
-use Prim.Native.Nat.{ℕ}
-use mathlib.Core.Path.{_≡_, _∙_}
-use native.Mathlib.Omega.{arith}
+use mathlib.Core.Path.{_≡_}
 use borrow.Author.Needs.{needs}
 use lib.ListN.{length}
 use Rattle.post.proofs.post_all.Statement.{statement}

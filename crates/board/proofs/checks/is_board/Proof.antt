@@ -1,15 +1,15 @@
 -- `is_board` meets its contract: the slots before the first of length 0 are asked one by one, and the rest for zeros.
 use mathlib.Core.Path.{_≡_, refl, sym, ap, _∙_}
-use mathlib.Core.Bool.{Bool, true, false, _&&_}
+use mathlib.Core.Bool.{true, false, _&&_}
 use mathlib.Core.List.{List}
-use Prim.Native.Nat.{ℕ, _+_, _-_, _*_, _≤_, _<_}
+use Prim.Native.Nat.{ℕ, _-_, _*_}
 use native.Mathlib.Omega.{arith}
 use borrow.Author.Needs.{needs}
 use borrow.Author.Tests.{eq-eqb, ne-eqb}
-use lib.ListN.{length, take, drop, length-drop}
+use lib.ListN.{length, drop, length-drop}
 use lib.Seq.{take-all}
 use Rattle.slots.specs.Slots.{isZero}
-use Rattle.board.specs.Board.{isBoard, inOrder}
+use Rattle.board.specs.Board.{isBoard}
 use Rattle.board.specs.Internals.{slotsBeforeFree, filledRising}
 use Rattle.board.proofs.Checked.{checked}
 use Rattle.board.proofs.checks.is_board.Statement.{statement}

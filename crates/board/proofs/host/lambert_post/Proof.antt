@@ -1,8 +1,7 @@
 -- `lambert_post` meets its contract: what `post` returns, as one number.
-use mathlib.Core.Path.{_≡_, refl, sym, ap, _∙_}
+use mathlib.Core.Path.{sym, ap, _∙_}
 use borrow.Author.Needs.{needs}
-use Rattle.board.specs.declared.Posted.{Posted}
-use Rattle.board.specs.Board.{numberGiven, postOf}
+use Rattle.board.specs.Board.{numberGiven}
 use Rattle.board.proofs.host.lambert_post.Statement.{statement}
 use Rattle.board.proofs.host.lambert_post.Tie as tie
 

@@ -1,16 +1,16 @@
 -- `change_of` meets its contract: by the two revisions, and by the bytes where these are equal.
 use mathlib.Core.Path.{_≡_, refl, sym, ap, _∙_}
-use mathlib.Core.Bool.{Bool, true, false, cond}
+use mathlib.Core.Bool.{false}
 use mathlib.Core.List.{List}
-use Prim.Native.Nat.{ℕ, _+_, _≤_, _<_, min}
+use Prim.Native.Nat.{ℕ}
 use native.Mathlib.Omega.{arith}
 use borrow.Author.Needs.{needs}
 use borrow.Author.Tests.{lt-ltb, le-ltb}
 use lib.Dec.{ltb}
-use lib.ListN.{length, take}
+use lib.ListN.{take}
 use lib.Seq.{length-take-le}
 use Rattle.little_endian.proofs.Cuts.{take-cut}
-use Rattle.outcomes.specs.Outcomes.{jobOf, revisionOf}
+use Rattle.outcomes.specs.Outcomes.{revisionOf}
 use Rattle.slots.specs.Slots.{slotOf, contentOf, sizeIn, sameBytes}
 use Rattle.slots.proofs.Padding.{number-padded}
 use Rattle.board.specs.Board.{joined}

@@ -1,14 +1,12 @@
 -- `place` meets its contract: each route that `route_of` finds leads to what `placedOn` says (`goes`).
-use mathlib.Core.Path.{_≡_, refl, sym, ap, _∙_, subst}
-use mathlib.Core.Bool.{true}
+use mathlib.Core.Path.{_≡_, sym, ap, _∙_, subst}
 use mathlib.Core.List.{List}
-use Prim.Native.Nat.{ℕ, _+_, _-_, _*_, _≤_, _<_}
+use Prim.Native.Nat.{ℕ, _+_, _-_}
 use native.Mathlib.Omega.{arith}
 use borrow.Author.Needs.{needs}
-use borrow.Rule.Slice.PartMut.{midOf, putMid}
+use borrow.Rule.Slice.PartMut.{putMid}
 use lib.ListN.{length, take, drop, length-drop}
 use lib.Seq.{length-take-le}
-use Rattle.outcomes.specs.Outcomes.{jobOf}
 use Rattle.slots.specs.Slots.{padded, slotOf, contentOf}
 use Rattle.board.specs.declared.moves.Route.{Route}
 use Rattle.board.specs.declared.moves.Route.the-variants.{Joins, Enters, NoneFree}

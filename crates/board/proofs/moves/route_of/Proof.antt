@@ -1,12 +1,8 @@
 -- `route_of` meets its contract: it asks what `routeOf` asks.
-use mathlib.Core.Path.{_≡_, refl, sym, ap, _∙_}
-use mathlib.Core.Bool.{Bool, true, false, _&&_}
-use Prim.Native.Nat.{ℕ, _+_, _*_}
+use mathlib.Core.Path.{refl}
 use borrow.Author.Needs.{needs}
 use borrow.Author.Tests.{eq-eqb, ne-eqb}
-use lib.Dec.{eqb, ltb}
-use Rattle.little_endian.specs.Bytes.{numberAt}
-use Rattle.board.specs.Internals.{slotsBeforeFree, slotsBelow, routeOf}
+use Rattle.board.specs.Internals.{routeOf}
 use Rattle.board.proofs.moves.route_of.Statement.{statement}
 use Rattle.board.proofs.moves.route_of.Tie as tie
 
