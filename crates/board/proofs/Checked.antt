@@ -14,7 +14,7 @@ use Rattle.little_endian.specs.Bytes.{numberAt}
 use Rattle.records.specs.Layout.{LENGTH, answerRoom, valueOf}
 use Rattle.outcomes.specs.Outcomes.{jobOf}
 use Rattle.slots.specs.Slots.{contentOf, isFilled, isZero}
-use Rattle.slots.proofs.Padding.{number-take, number-drop}
+use Rattle.little_endian.proofs.Same.{number-take, number-drop}
 use Rattle.slots.proofs.Zeros.{zero-number}
 use Rattle.slots.proofs.Held.{slot-named, content-held, slot-back}
 use Rattle.board.proofs.Boards.{one-more}

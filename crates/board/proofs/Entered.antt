@@ -15,7 +15,8 @@ use Rattle.little_endian.specs.Bytes.{numberAt}
 use Rattle.records.specs.Layout.{LENGTH, answerRoom, valueOf}
 use Rattle.outcomes.specs.Outcomes.{jobOf}
 use Rattle.slots.specs.Slots.{padded, slotOf, contentOf, isHeld}
-use Rattle.slots.proofs.Padding.{padded-length, number-take, number-drop}
+use Rattle.little_endian.proofs.Same.{number-take, number-drop}
+use Rattle.slots.proofs.Padding.{padded-length}
 use Rattle.slots.proofs.Zeros.{both, zeros-zero, zero-number}
 use Rattle.slots.proofs.Held.{slot-named, slot-job, content-back}
 use Rattle.board.specs.declared.moves.Route.{Route}

@@ -5,11 +5,11 @@ use mathlib.Core.List.{List, [], _∷_, _++_, map, append-assoc, append-nil}
 use Prim.Native.Nat.{ℕ, zero, suc, _+_, _*_, _-_, _≤_, _<_}
 use native.Mathlib.Omega.{arith}
 use native.Mathlib.Numerals.{add-one}
-use borrow.Author.Tests.{le-leb, lt-leb}
 use borrow.Rule.Slice.PartMut.{midOf, postOf, putMid}
 use lib.ListN.{length, take, drop, getD, length-append, length-drop, length-map, drop-of-length-le, take-append-drop}
 use lib.Seq.{take-at, drop-at, take-all, take-suc, drop-drop, length-take-le}
-use Rattle.little_endian.specs.Bytes.{hasRoom, written}
+use Rattle.little_endian.specs.Bytes.{written}
+use Rattle.little_endian.proofs.Laid.{laid}
 use Rattle.records.specs.Records.{headBytes, answerHeadOf, entryBytes, entriesBytes, answerBytes}
 use Rattle.records.specs.declared.Entry.{Entry}
 use Rattle.records.proofs.Sizes.{head-length, entry-length}
@@ -18,20 +18,7 @@ use Rattle.entrance.specs.declared.Problem.{Problem}
 use Rattle.bisection.specs.declared.Bracket.{Bracket}
 use Rattle.entries.specs.Entries.{entryFor}
 
--- ---- bytes laid over a buffer, and over a part of one
-
-pub laid : (buffer bytes : List ℕ) → length bytes ≤ length buffer → written buffer bytes ≡ bytes ++ drop (length bytes) buffer
-unfolding written hasRoom
-laid buffer bytes h = rw (le-leb (length bytes) (length buffer) h)
-
-pub laid-length : (buffer bytes : List ℕ) → length bytes ≤ length buffer → length (written buffer bytes) ≡ length buffer
-laid-length buffer bytes h =
-    ap length (laid buffer bytes h) ∙ length-append bytes (drop (length bytes) buffer) ∙ omega (arith, length-drop (length bytes) buffer, h)
-
--- without room the buffer stays as it was
-pub not-laid : (buffer bytes : List ℕ) → length buffer < length bytes → written buffer bytes ≡ buffer
-unfolding written hasRoom
-not-laid buffer bytes h = rw (lt-leb (length bytes) (length buffer) h)
+-- ---- bytes laid over a part of a buffer
 
 laid-part : (pre rest bytes : List ℕ) (n k : ℕ) → length pre ≡ n → k ≡ length (pre ++ rest) - n → length bytes ≤ length rest →
     putMid n k (pre ++ rest) (written (midOf n k (pre ++ rest)) bytes) ≡ pre ++ (bytes ++ drop (length bytes) rest)

@@ -4,3 +4,5 @@ mod Writing
 pub mod Tabled
 pub mod RoundTrip
 pub mod Cuts
+pub mod Laid
+pub mod Same

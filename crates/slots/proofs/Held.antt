@@ -11,7 +11,8 @@ use lib.Seq.{take-at, drop-at}
 use Rattle.records.specs.Layout.{LENGTH, KIND, LAST, headSize, mostEntries, answerSize, valueOf}
 use Rattle.outcomes.specs.Outcomes.{jobOf, isSized, isBetween, isRefusal, allNameAnEnd, isAnswer, isOutcome}
 use Rattle.slots.specs.Slots.{slotOf, sizeIn, contentOf, isConflict, isHeld, isZero, isFilled}
-use Rattle.slots.proofs.Padding.{padded-is, number-padded, number-take}
+use Rattle.little_endian.proofs.Same.{number-take}
+use Rattle.slots.proofs.Padding.{padded-is, number-padded}
 use Rattle.slots.proofs.Zeros.{both, zero-is, zeros-zero, zero-number}
 
 pub outcome-held : (c : List ℕ) → isOutcome c ≡ true → isHeld c ≡ true

@@ -1,4 +1,4 @@
--- Bytes with zeros after them, up to a size: how many they are and what stands in them; and a number in them, in a part and in a rest, which is read from its own bytes alone (`number-same`).
+-- Bytes with zeros after them, up to a size: how many they are and what stands in them, and a number in them.
 use mathlib.Core.Path.{_≡_, refl, ap, _∙_}
 use mathlib.Core.List.{List, [], _∷_, _++_}
 use Prim.Native.Nat.{ℕ, zero, suc, _+_, _-_, _≤_, _<_}
@@ -6,6 +6,7 @@ use native.Mathlib.Omega.{arith}
 use lib.ListN.{length, getD, take, drop, replicate, length-append, length-replicate}
 use lib.Seq.{take-append-add, getD-take, getD-drop, length-take-le}
 use Rattle.little_endian.specs.Bytes.{numberAt}
+use Rattle.little_endian.proofs.Same.{number-same}
 use Rattle.slots.specs.Slots.{padded}
 
 pub padded-length : (n : ℕ) (c : List ℕ) → length (padded n c) ≡ n
@@ -38,22 +39,5 @@ padded-is n c h =
 
 -- ---- numbers
 
-pub number-same : (w at : ℕ) (s t : List ℕ) → ((i : ℕ) → at ≤ i → i < at + w → getD s i 0 ≡ getD t i 0) → numberAt w s at ≡ numberAt w t at
-unfolding numberAt
-number-same zero at s t h = refl
-number-same (suc w) at s t h =
-    let rest : numberAt w s (at + 1) ≡ numberAt w t (at + 1) = number-same w (at + 1) s t (λ (i : ℕ) l k. h i (omega arith) (omega arith)) in
-    rw (h at (omega arith) (omega arith), rest)
-
 pub number-padded : (w n at : ℕ) (c : List ℕ) → at + w ≤ n → numberAt w (padded n c) at ≡ numberAt w c at
 number-padded w n at c h = number-same w at (padded n c) c (λ (i : ℕ) l k. padded-at n c i (omega arith))
-
-pub number-take : (w n at : ℕ) (s : List ℕ) → at + w ≤ n → numberAt w (take n s) at ≡ numberAt w s at
-number-take w n at s h = number-same w at (take n s) s (λ (i : ℕ) l k. getD-take n s i 0 (omega arith))
-
-pub number-drop : (w n at : ℕ) (s : List ℕ) → numberAt w (drop n s) at ≡ numberAt w s (n + at)
-unfolding numberAt
-number-drop zero n at s = refl
-number-drop (suc w) n at s =
-    let e : n + (at + 1) ≡ n + at + 1 = omega arith in
-    rw (getD-drop n s at 0, number-drop w n (at + 1) s, e)

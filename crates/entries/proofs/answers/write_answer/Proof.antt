@@ -16,7 +16,8 @@ use Rattle.records.proofs.Sizes.{head-length}
 use Rattle.bisection.specs.declared.Bracket.{Bracket}
 use Rattle.entries.specs.Entries.{entryFor}
 use Rattle.entries.proofs.BracketLists.{take-few}
-use Rattle.entries.proofs.Written.{laid-length, not-laid, soFar, starts, size-at, goes-on, ends, answer-size}
+use Rattle.little_endian.proofs.Laid.{laid-length, not-laid}
+use Rattle.entries.proofs.Written.{soFar, starts, size-at, goes-on, ends, answer-size}
 use Rattle.entries.proofs.answers.write_answer.Statement.{statement}
 use Rattle.entries.proofs.answers.write_answer.Tie as tie
 
