@@ -1,9 +1,11 @@
 -- The tables of specs/Layout.antt have no gap and no overlap: each field starts where the one before it ends, and the tables end at the records' sizes.
 use mathlib.Core.Path.{_≡_, refl}
 use mathlib.Core.Bool.{true}
-use Rattle.records.specs.Layout.{questionFields, headFields, entryFields, headSize, entrySize, tiles}
+use mathlib.Core.List.{List, [], _∷_}
+use Prim.Native.Nat.{ℕ, _-_}
+use Rattle.records.specs.Layout.{LENGTH, questionFields, headFields, entryFields, questionLengths, questionSize, headSize, entrySize, tiles}
 
-pub question-tiles : tiles 0 questionFields 82 ≡ true
+pub question-tiles : tiles 0 questionFields questionSize ≡ true
 unfolding tiles questionFields
 question-tiles = refl
 
@@ -14,3 +16,8 @@ head-tiles = refl
 pub entry-tiles : tiles 0 entryFields entrySize ≡ true
 unfolding tiles entryFields
 entry-tiles = refl
+
+-- a question in force is as long as its table, and its length counts what follows it
+pub question-lengths : questionLengths ≡ (questionSize - LENGTH .width) ∷ []
+unfolding questionLengths
+question-lengths = refl

@@ -103,7 +103,10 @@ headFields = LENGTH ∷ KIND ∷ JOB ∷ REVISION ∷ LAST ∷ []
 unfoldable pub entryFields : List Field
 entryFields = LOWER ∷ HALVINGS ∷ CHOSEN ∷ V1X ∷ V1Y ∷ V1Z ∷ V2X ∷ V2Y ∷ V2Z ∷ []
 
--- the sizes of the records in bytes, where their tables end (proofs/Tables.antt): the head, which is a refusal's all, and an entry
+-- the sizes of the records in bytes, where their tables end (proofs/Tables.antt): a question, the head, which is a refusal's all, and an entry
+abbrev pub questionSize : ℕ
+questionSize = 82
+
 abbrev pub headSize : ℕ
 headSize = 16
 
@@ -119,6 +122,13 @@ mostEntries = 8
 
 abbrev pub answerRoom : ℕ
 answerRoom = answerSize mostEntries
+
+-- the lengths in force for a question, and room for the longest one
+unfoldable pub questionLengths : List ℕ
+questionLengths = 78 ∷ []
+
+abbrev pub questionRoom : ℕ
+questionRoom = questionSize
 
 -- the number that a field of some bytes holds, and the bytes of a record whose fields hold some numbers
 abbrev pub valueOf : Field → List ℕ → ℕ

@@ -15,6 +15,13 @@ pub use heads::write_head;
 pub use questions::read_question;
 pub use questions::write_question;
 
+// The size of the length that a record begins with, the length in force for a question, and the size of the longest question.
+pub const LENGTH_SIZE: usize = 4;
+
+pub const QUESTION_LENGTH: u32 = 78;
+
+pub const QUESTION_ROOM: usize = 82;
+
 // The sizes of a refusal, which is an answer's head too, of an entry, and of the longest answer.
 pub const HEAD_SIZE: usize = 16;
 
