@@ -8,9 +8,9 @@ use borrow.Author.Tests.{ne-eqb}
 use lib.Pow.{pow-pos}
 use lib.IntN.{ℤ, pos, negsuc, negℤ, _+ℤ_, _-ℤ_, +ℤ-assoc, +ℤ-comm, +ℤ-invl, +ℤ-idl, +ℤ-negℤ-cancel}
 use lib.Signed.{mag, quotZ}
-use Rattle.bisection.specs.declared.side.Side.{Side}
-use Rattle.bisection.specs.declared.side.Side.the-variants.{Below, NotBelow, Unknown}
-use Rattle.bisection.specs.Sides.{opposite, isUnknown}
+use Rattle.stations.specs.declared.side.Side.{Side}
+use Rattle.stations.specs.declared.side.Side.the-variants.{Below, NotBelow, Unknown}
+use Rattle.stations.specs.Sides.{opposite, isUnknown}
 use Rattle.bisection.specs.Halving.{same, middleOf, stops, bisectOf}
 
 pub double : (n : ℕ) → 2 ^ suc n ≡ 2 ^ n + 2 ^ n

@@ -9,11 +9,11 @@ use lib.Signed.{mag, quotZ}
 use mir.Syntax.{w64}
 use mir.Val.{SFits, toZ, ofZ}
 use mir.Facts.{toZ-ofZ}
-use Rattle.bisection.specs.declared.side.Side.{Side}
-use Rattle.bisection.specs.Sides.{opposite, isUnknown}
+use Rattle.stations.specs.declared.side.Side.{Side}
+use Rattle.stations.specs.Sides.{opposite, isUnknown}
 use Rattle.bisection.specs.Halving.{bisectOf}
 use Rattle.bisection.specs.Interval.{Interval}
-use Rattle.bisection.proofs.Places.{mag-add}
+use Rattle.stations.proofs.Places.{mag-add}
 use Rattle.bisection.proofs.Halving.{double, up-less, middle, top, up-twice, sum-is, middle-is, step, mag-twice}
 
 -- an interval by other names of its ends

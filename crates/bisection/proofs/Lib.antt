@@ -1,4 +1,2 @@
-pub mod Places
 pub mod Halving
 pub mod Intervals
-pub mod BracketLaws

@@ -5,8 +5,8 @@ use lib.Dec.{eqb}
 use lib.IntN.{ℤ, pos, negsuc, _+ℤ_, _-ℤ_}
 use lib.Signed.{quotZ}
 use Rattle.bisection.specs.declared.Bracket.{Bracket}
-use Rattle.bisection.specs.declared.side.Side.{Side}
-use Rattle.bisection.specs.Sides.{opposite, isUnknown}
+use Rattle.stations.specs.declared.side.Side.{Side}
+use Rattle.stations.specs.Sides.{opposite, isUnknown}
 
 -- two places are one
 abbrev pub same : ℤ → ℤ → Bool

@@ -3,7 +3,7 @@ use mathlib.Core.Path.{_≡_}
 use Prim.Native.Nat.{ℕ, _+_, _-_, _^_, _≤_}
 use lib.IntN.{ℤ, pos, _+ℤ_}
 use lib.Signed.{mag}
-use Rattle.bisection.specs.declared.side.Side.{Side}
+use Rattle.stations.specs.declared.side.Side.{Side}
 
 pub record Interval (σ : ℤ → Side) (low : Side) (a b : ℤ) (h : ℕ) : Type 0 where
   pub side : low ≡ σ a

@@ -1,6 +1,3 @@
-pub mod Sides
-pub mod Stations
 pub mod Halving
 pub mod Interval
 pub mod Pairs
-pub mod Brackets

@@ -3,9 +3,9 @@ use Prim.Native.Nat.{ℕ, _+_}
 use mathlib.Core.Bool.{Bool}
 use lib.IntN.{ℤ}
 use Rattle.bisection.specs.declared.Bracket.{Bracket}
-use Rattle.bisection.specs.declared.side.Side.{Side}
-use Rattle.bisection.specs.Sides.{opposite}
-use Rattle.bisection.specs.Stations.{stationOf}
+use Rattle.stations.specs.declared.side.Side.{Side}
+use Rattle.stations.specs.Sides.{opposite}
+use Rattle.stations.specs.Stations.{stationOf}
 use Rattle.bisection.specs.Halving.{bisectOf}
 
 -- stations i and i + 1, a neighbouring pair, have times on different sides

@@ -1,24 +1,18 @@
-// Sides, stations and the bisection of a pair (01, Stations, sides, crossings): which side of the
-// wanted time a place is on, and where the halving of two neighbouring stations stops.
+// The bisection of a pair (01, Stations, sides, crossings): where the halving of two neighbouring
+// stations stops.
 ghost use mathlib.Core.Path.{_≡_};
 ghost use Prim.Native.Nat.{_-_};
-ghost use Rattle.bisection.specs.Sides.{sideAt};
+ghost use Rattle.stations.specs.Sides.{sideAt};
 ghost use Rattle.bisection.specs.Halving.{bisectOf};
 ghost use Rattle.bisection.specs.Interval.{Interval};
 ghost use Rattle.bisection.specs.Pairs.{bracketOf};
-
-mod side;
-mod stations;
-
 use flight_time::Place;
 use geometry::Triangle;
-pub use side::Side;
-pub use side::are_opposite;
-pub use side::is_unknown;
-use side::side_at;
-pub use stations::last_station;
-pub use stations::side_of_station;
-pub use stations::station;
+use stations::Side;
+use stations::are_opposite;
+use stations::is_unknown;
+use stations::side_at;
+use stations::station;
 
 // The interval at which the halving of a pair stops, and how often the pair was halved.
 pub struct Bracket {

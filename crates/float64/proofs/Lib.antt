@@ -11,4 +11,3 @@ mod Assembly
 mod Cases
 pub mod Grid
 pub mod Law
-mod ClosedCases

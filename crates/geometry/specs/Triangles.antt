@@ -3,7 +3,7 @@ use mathlib.Core.Bool.{Bool, cond}
 use lib.Ieee.{Float, neg}
 use Rattle.float64.specs.Notation.{_⊕_, _⊖_, _⊗_, _⊘_, _≺_, 0F, 1F, 2F}
 use Rattle.float64.specs.declared.Vector.{Vector}
-use Rattle.geometry.specs.Vectors.{normSquared, difference, cross, dividedBy, opposite, rootOrNan}
+use Rattle.vectors.specs.Vectors.{normSquared, difference, cross, dividedBy, opposite, rootOrNan}
 use Rattle.geometry.specs.declared.Triangle.{Triangle}
 use Rattle.geometry.specs.declared.Shape.{Shape}
 use Rattle.geometry.specs.declared.Frame.{Frame}

@@ -2,11 +2,10 @@
 // conditions that are asked of them. Each function takes any numbers.
 ghost use mathlib.Core.Path.{_≡_};
 ghost use mathlib.Core.Bool.{cond};
-ghost use Rattle.geometry.specs.Vectors.{opposite};
+ghost use Rattle.vectors.specs.Vectors.{opposite};
 ghost use Rattle.geometry.specs.Triangles.{semiperimeterOf, atLeastZero, lambdaOf, triangleOf, shapeOf, frameOf, wantedOf};
 
 mod conditions;
-mod vectors;
 
 pub use conditions::flat_triangle;
 pub use conditions::no_plane;

@@ -1,29 +1,14 @@
 // Reads questions from standard input in slots of 82 bytes and writes the record of each to standard
 // output. What is done for a question is the solver's; here bytes are only moved.
-ghost use mathlib.Core.Path.{_≡_};
-ghost use lib.ListN.{take};
-ghost use Rattle.io.specs.Counts.{Counts};
-ghost use Rattle.solver.specs.Solve.{recordOf};
 use libc::STDOUT_FILENO;
+use records::QUESTION_ROOM;
+use replies::ROOM;
 use streams::Got;
-
-// The size of a question, and of the longest record.
-const SLOT: usize = 82;
-
-const ROOM: usize = records::ANSWER_ROOM;
-
-// Puts the record of a question at the buffer's start, and answers its length.
-fn record_of(question: &[u8], out: &mut [u8; ROOM]) -> usize
-    ensures { λ r. ⌜ Counts r (now (out .exit)) ⌝ }
-    ensures { λ r. ⌜ take r (now (out .exit)) ≡ recordOf (now (question .entry)) ⌝ }
-{
-    solver::respond(question, out)
-}
 
 // Writes the record of a question, and answers whether it could be written.
 fn answer(question: &[u8]) -> bool {
     let mut out = [0u8; ROOM];
-    let n = record_of(question, &mut out);
+    let n = replies::record_of(question, &mut out);
     if io::write_all(STDOUT_FILENO, &out[..n]) {
         return true;
     }
@@ -33,9 +18,9 @@ fn answer(question: &[u8]) -> bool {
 
 // Answers one slot, and whether another may follow: none does after a short one or after a failure.
 fn answer_one() -> bool {
-    let mut slot = [0u8; SLOT];
+    let mut slot = [0u8; QUESTION_ROOM];
     match streams::fill(&mut slot) {
-        Got::Bytes(n) => n > 0 && answer(&slot[..n]) && n == SLOT,
+        Got::Bytes(n) => n > 0 && answer(&slot[..n]) && n == QUESTION_ROOM,
         Got::Failed => {
             os::fail(b"lambert: standard input cannot be read");
             false

@@ -16,12 +16,12 @@ use Rattle.entrance.specs.Judge.{checks, firstOf, judgeOf}
 use Rattle.entrance.specs.declared.Problem.{Problem}
 use Rattle.entrance.specs.declared.Judged.{Judged}
 use Rattle.entrance.specs.declared.Judged.the-variants.{Refused, Accepted}
-use Rattle.solver.specs.declared.Outcome.{Outcome}
-use Rattle.solver.specs.declared.Outcome.the-variants.{Refused, Answered}
-use Rattle.solver.specs.Crossed.{entriesOf}
-use Rattle.solver.specs.Table.{lateChecks}
-use Rattle.solver.proofs.Numbering.{few, count-is, most-eight}
-use Rattle.solver.specs.Solve.{Solved, refused, answered, settledOf, after, solveOf, longest, refusalFor, refusalBytes, recordAfter, recordOf, Response, responseOf}
+use Rattle.solution.specs.declared.Outcome.{Outcome}
+use Rattle.solution.specs.declared.Outcome.the-variants.{Refused, Answered}
+use Rattle.solution.specs.Crossed.{entriesOf}
+use Rattle.solution.specs.Table.{lateChecks}
+use Rattle.solution.proofs.Numbering.{few, count-is, most-eight}
+use Rattle.solution.specs.Solve.{Solved, refused, answered, settledOf, after, solveOf, longest, refusalFor, refusalBytes, recordAfter, recordOf, Response, responseOf}
 
 -- the verdict on a question is the same for every buffer with room
 pub room-same : (question : List ℕ) (room : ℕ) → longest ≤ room → judgeOf question room ≡ judgeOf question longest

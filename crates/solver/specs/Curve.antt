@@ -8,8 +8,8 @@ use Rattle.entrance.specs.declared.Judged.{Judged}
 use Rattle.entrance.specs.declared.Judged.the-variants.{Refused, Accepted}
 use Rattle.flight_time.specs.Time.{placeBits}
 use Rattle.entries.specs.Entries.{placeOf}
-use Rattle.solver.specs.Crossed.{lastStation}
-use Rattle.solver.specs.Solve.{longest}
+use Rattle.solution.specs.Crossed.{lastStation}
+use Rattle.solution.specs.Solve.{longest}
 
 -- where there is no time: all ones, a choice of ours, as for a void place
 abbrev pub noTime : ℕ

@@ -2,7 +2,7 @@
 // the time T at any place, both as 01 has them and not in seconds. A time is told by its bits, all ones
 // where there is none; a question that does not pass the entrance checks has no time and no station.
 ghost use mathlib.Core.Path.{_≡_};
-ghost use Rattle.bisection.specs.Stations.{stationOf};
+ghost use Rattle.stations.specs.Stations.{stationOf};
 ghost use Rattle.solver.specs.Curve.{wantedBits, stationCount, timeBits};
 use entrance::Judged;
 
@@ -29,7 +29,7 @@ pub extern "C" fn lambert_stations(question: &[u8]) -> u64
 {
     match entrance::judge(question, ROOM) {
         Judged::Refused(_) => 0,
-        Judged::Accepted(problem) => bisection::last_station(problem.revolutions) as u64 + 1,
+        Judged::Accepted(problem) => stations::last_station(problem.revolutions) as u64 + 1,
     }
 }
 
@@ -38,7 +38,7 @@ pub extern "C" fn lambert_stations(question: &[u8]) -> u64
 pub extern "C" fn lambert_station(i: u16) -> i64
     ensures { λ r. ⌜ r ≡ stationOf i ⌝ }
 {
-    bisection::station(i)
+    stations::station(i)
 }
 
 // The time at the place k.

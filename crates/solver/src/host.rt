@@ -1,7 +1,7 @@
 // The C interface, for hosts in other languages. A slice is a pointer and a length; the memory of a
 // question and of a buffer must not overlap.
 ghost use mathlib.Core.Path.{_≡_};
-ghost use Rattle.solver.specs.Solve.{numberGiven, solveOf, responseOf};
+ghost use Rattle.solution.specs.Solve.{numberGiven, solveOf, responseOf};
 use crate::Outcome;
 use crate::responses::respond;
 use crate::solve;

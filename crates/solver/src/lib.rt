@@ -1,48 +1,8 @@
-// A question's bytes to its answer or its refusal (01): the entrance checks, the sweep, and for each
-// crossing its bracket, the chosen end and the velocities there.
-ghost use mathlib.Core.Path.{_≡_};
-ghost use Rattle.solver.specs.Solve.{settledOf, solveOf};
-
+// The record of a question, and the C interface: to solve a question, and to draw its curve.
 mod curve;
 mod host;
-mod numbers;
 mod responses;
 
-use entrance::Judged;
-use entrance::Problem;
-use numbers::late_number;
 pub use responses::respond;
-
-// What comes of a question: the number of its refusal, or how many entries its answer has.
-pub enum Outcome {
-    Refused(u16),
-    Answered(u16),
-}
-
-// Judges and solves a question. An answer is written at the buffer's start; a refusal leaves the
-// buffer untouched.
-pub fn solve(question: &[u8], answer: &mut [u8]) -> Outcome
-    ensures { λ r. ⌜ (r ≡ solveOf (now (question .entry)) (now (answer .entry)) .outcome) × (now (answer .exit) ≡ solveOf (now (question .entry)) (now (answer .entry)) .buffer) ⌝ }
-{
-    match entrance::judge(question, answer.len()) {
-        Judged::Refused(number) => Outcome::Refused(number),
-        Judged::Accepted(problem) => settle(problem, answer),
-    }
-}
-
-// Solves a problem that is past the entrance checks.
-fn settle(p: Problem, answer: &mut [u8]) -> Outcome
-    ensures { λ r. ⌜ (r ≡ settledOf p (now (answer .entry)) .outcome) × (now (answer .exit) ≡ settledOf p (now (answer .entry)) .buffer) ⌝ }
-{
-    let triangle = p.triangle;
-    let found = sweep::find_crossings(triangle, p.revolutions, p.wanted);
-    let list = found.list;
-    let walk = found.walk;
-    let finite = entries::all_finite(p, list, found.count);
-    let number = late_number(walk, found.count, finite);
-    if number != 0 {
-        return Outcome::Refused(number);
-    }
-    entries::write_answer(p, list, found.count, answer);
-    Outcome::Answered(found.count as u16)
-}
+pub use solution::Outcome;
+pub use solution::solve;

@@ -1,6 +1,6 @@
 // The record of a question: its answer, or its refusal.
 ghost use mathlib.Core.Path.{_≡_};
-ghost use Rattle.solver.specs.Solve.{refusalFor, responseOf};
+ghost use Rattle.solution.specs.Solve.{refusalFor, responseOf};
 use crate::Outcome;
 use crate::solve;
 use records::Head;

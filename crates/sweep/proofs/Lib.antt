@@ -1,6 +1,2 @@
 pub mod Lists
 pub mod Turns
-pub mod Keeping
-pub mod Theorems
-pub mod Corners
-pub mod AnyTriangle

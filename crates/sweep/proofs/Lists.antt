@@ -11,7 +11,7 @@ use lib.ListN.{length, set, replicate, length-append}
 use lib.Seq.{take-all, take-at, set-append-seam, append-snoc}
 use lib.IntN.{ℤ}
 use Rattle.bisection.specs.declared.Bracket.{Bracket}
-use Rattle.bisection.specs.declared.side.Side.{Side}
+use Rattle.stations.specs.declared.side.Side.{Side}
 use Rattle.bisection.specs.Pairs.{crosses, bracketOf}
 use Rattle.sweep.specs.Crossings.{upTo, keep, some, crossings, someVoid, brackets, blank, eight, walkOf, reported, sweepOf}
 

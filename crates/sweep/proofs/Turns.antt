@@ -9,10 +9,10 @@ use lib.Arith.{lt-of-le-ne}
 use lib.ListN.{length, set, length-append}
 use lib.IntN.{ℤ}
 use Rattle.bisection.specs.declared.Bracket.{Bracket}
-use Rattle.bisection.specs.declared.side.Side.{Side}
-use Rattle.bisection.specs.declared.side.Side.the-variants.{Unknown}
-use Rattle.bisection.specs.Sides.{opposite, isUnknown}
-use Rattle.bisection.specs.Stations.{stationOf}
+use Rattle.stations.specs.declared.side.Side.{Side}
+use Rattle.stations.specs.declared.side.Side.the-variants.{Unknown}
+use Rattle.stations.specs.Sides.{opposite, isUnknown}
+use Rattle.stations.specs.Stations.{stationOf}
 use Rattle.bisection.specs.Pairs.{crosses, bracketOf}
 use Rattle.sweep.specs.Crossings.{upTo, keep, some, crossings, someVoid, brackets, blank, eight, walkOf, sweepOf}
 use Rattle.sweep.proofs.Lists.{some-next, eight-set, brackets-next, all-passed, left-at}

@@ -6,12 +6,12 @@ use lib.Dec.{ltb}
 use lib.ListN.{length, take, replicate}
 use lib.IntN.{ℤ, pos}
 use Rattle.bisection.specs.declared.Bracket.{Bracket}
-use Rattle.bisection.specs.declared.side.Side.{Side}
+use Rattle.stations.specs.declared.side.Side.{Side}
 use Rattle.sweep.specs.declared.Crossings.{Crossings}
 use Rattle.sweep.specs.declared.Walk.{Walk}
 use Rattle.sweep.specs.declared.Walk.the-variants.{AllTimed, SomeVoid, NinthFound}
-use Rattle.bisection.specs.Sides.{isUnknown}
-use Rattle.bisection.specs.Stations.{stationOf}
+use Rattle.stations.specs.Sides.{isUnknown}
+use Rattle.stations.specs.Stations.{stationOf}
 use Rattle.bisection.specs.Pairs.{crosses, bracketOf}
 
 -- 0, 1, .., n - 1

@@ -2,17 +2,17 @@
 // walked in rising x, and each of the first eight neighbouring pairs on different sides is halved
 // down to a bracket.
 ghost use mathlib.Core.Path.{_≡_};
-ghost use Rattle.bisection.specs.Sides.{sideAt};
-ghost use Rattle.bisection.specs.Stations.{lastOf};
+ghost use Rattle.stations.specs.Sides.{sideAt};
+ghost use Rattle.stations.specs.Stations.{lastOf};
 ghost use Rattle.sweep.specs.Crossings.{walkOf, sweepOf};
 pub use bisection::Bracket;
-use bisection::Side;
-use bisection::are_opposite;
 use bisection::bracket_of;
-use bisection::is_unknown;
-use bisection::last_station;
-use bisection::side_of_station;
 use geometry::Triangle;
+use stations::Side;
+use stations::are_opposite;
+use stations::is_unknown;
+use stations::last_station;
+use stations::side_of_station;
 
 // What is known of the stations. At a ninth crossing the walk is left, and nothing is said of the
 // times at the stations.

@@ -1,8 +1,8 @@
 -- What a sweep finds as one number: how many crossings are listed, and how the walk ended. Definitions only.
 use Prim.Native.Nat.{ℕ, _+_}
 use Rattle.float64.specs.Notation.{bits}
-use Rattle.bisection.specs.Sides.{sideAt}
-use Rattle.bisection.specs.Stations.{lastOf}
+use Rattle.stations.specs.Sides.{sideAt}
+use Rattle.stations.specs.Stations.{lastOf}
 use Rattle.sweep.specs.Crossings.{sweepOf}
 use Rattle.sweep.specs.declared.Crossings.{Crossings}
 use Rattle.sweep.specs.declared.Walk.{Walk}

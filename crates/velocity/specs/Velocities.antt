@@ -3,7 +3,7 @@ use lib.IntN.{ℤ}
 use lib.Ieee.{Float, neg}
 use Rattle.float64.specs.Notation.{_⊕_, _⊖_, _⊗_, _⊘_, 2F}
 use Rattle.float64.specs.declared.Vector.{Vector}
-use Rattle.geometry.specs.Vectors.{cross, orNan, rootOrNan}
+use Rattle.vectors.specs.Vectors.{cross, orNan, rootOrNan}
 use Rattle.geometry.specs.declared.Triangle.{Triangle}
 use Rattle.geometry.specs.declared.Frame.{Frame}
 use Rattle.hypergeometric.specs.Steps.{yOf}

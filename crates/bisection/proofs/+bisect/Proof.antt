@@ -3,16 +3,16 @@ use Prim.Native.Nat.{ℕ, _+_, _-_, _^_, _<_}
 use mathlib.Core.Path.{_≡_, sym, ap, _∙_, subst}
 use native.Mathlib.Omega.{arith}
 use mir.Facts.{toZ-ofZ}
-use Rattle.bisection.specs.Sides.{sideAt}
+use Rattle.stations.specs.Sides.{sideAt}
 use Rattle.bisection.proofs.Intervals.{renamed, at-one, width-fits, width-bits, left, mid, sum-fits, halfway-fits, mid-read, lower-next, upper-next, at-void, in-lower, in-upper}
 use borrow.Fn.Kinds.{In}
 use borrow.Fn.PlainCycle.{Measures, is, falls, and}
 use Rattle.bisection.proofs.bisect.Reads as bisect
 use Rattle.bisection.proofs.bisect.Kinds as bisect-kinds
 use Rattle.bisection.proofs.+bisect.Lts-bisect as bisect-lts
-use Rattle.bisection.proofs.side.are_opposite.Reads as are-opposite-reads
-use Rattle.bisection.proofs.side.is_unknown.Reads as is-unknown-reads
-use Rattle.bisection.proofs.side.side_at.Reads as side-at-reads
+use Rattle.stations.proofs.are_opposite.Reads as are-opposite-reads
+use Rattle.stations.proofs.is_unknown.Reads as is-unknown-reads
+use Rattle.stations.proofs.side_at.Reads as side-at-reads
 use Rattle.bisection.proofs.+bisect.{statement}
 use Rattle.bisection.proofs.+bisect.Tie.{close}
 

@@ -1,9 +1,9 @@
 -- `bracket_of` meets its contract: the pair is an interval of the width 2^20, not yet halved.
 use mathlib.Core.Path.{ap, _∙_}
 use native.Mathlib.Omega.{arith}
-use Rattle.bisection.specs.Sides.{sideAt}
+use Rattle.stations.specs.Sides.{sideAt}
 use Rattle.bisection.specs.Pairs.{bracketOf}
-use Rattle.bisection.proofs.Places.{station-room, station-read, next-station, upper-fits, upper-read}
+use Rattle.stations.proofs.Places.{station-room, station-read, next-station, upper-fits, upper-read}
 use Rattle.bisection.proofs.bracket_of.Statement.{statement}
 use Rattle.bisection.proofs.bracket_of.Tie as tie
 

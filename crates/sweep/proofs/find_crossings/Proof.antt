@@ -5,8 +5,8 @@ use Prim.Native.Nat.{_+_, _-_, _≤_}
 use native.Mathlib.Omega.{arith}
 use borrow.Author.Tests.{le-leb, lt-leb}
 use lib.Arith.{lt-of-le-ne}
-use Rattle.bisection.specs.Sides.{sideAt}
-use Rattle.bisection.proofs.Places.{last-most}
+use Rattle.stations.specs.Sides.{sideAt}
+use Rattle.stations.proofs.Places.{last-most}
 use Rattle.sweep.proofs.Turns.{Passed, starts, done, pair, too-many, passed, listed}
 use Rattle.sweep.proofs.find_crossings.Statement.{statement}
 use Rattle.sweep.proofs.find_crossings.Tie as tie

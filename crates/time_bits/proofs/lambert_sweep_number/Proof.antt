@@ -5,11 +5,11 @@ use native.Mathlib.Omega.{arith}
 use borrow.Author.Needs.{needs}
 use lib.IntN.{ℤ}
 use Rattle.float64.specs.Notation.{bits}
-use Rattle.bisection.specs.Sides.{sideAt}
-use Rattle.bisection.specs.Stations.{lastOf}
+use Rattle.stations.specs.Sides.{sideAt}
+use Rattle.stations.specs.Stations.{lastOf}
 use Rattle.sweep.specs.Crossings.{reported, sweepOf}
 use Rattle.sweep.specs.declared.Crossings.{Crossings}
-use Rattle.bisection.specs.declared.side.Side.{Side}
+use Rattle.stations.specs.declared.side.Side.{Side}
 use Rattle.sweep.specs.declared.Walk.{Walk}
 use Rattle.sweep.specs.declared.Walk.the-variants.{AllTimed, SomeVoid, NinthFound}
 use Rattle.time_bits.specs.TimeBits.{withLambda}

@@ -1,6 +1,6 @@
 -- `lambert_solve` meets its contract: the number of the outcome that `solve` returns.
 use mathlib.Core.Path.{_≡_, sym, ap, _∙_}
-use Rattle.solver.specs.Solve.{numberGiven}
+use Rattle.solution.specs.Solve.{numberGiven}
 use borrow.Author.Needs.{needs}
 use Rattle.solver.proofs.host.lambert_solve.Statement.{statement}
 use Rattle.solver.proofs.host.lambert_solve.Tie as tie

@@ -1,6 +1,6 @@
 -- `refusal_for` meets its contract: by the test of the number.
 use borrow.Author.Tests.{eq-eqb, ne-eqb}
-use Rattle.solver.specs.Solve.{refusalFor}
+use Rattle.solution.specs.Solve.{refusalFor}
 use borrow.Author.Needs.{needs}
 use Rattle.solver.proofs.responses.refusal_for.Statement.{statement}
 use Rattle.solver.proofs.responses.refusal_for.Tie as tie

@@ -8,7 +8,7 @@ use Rattle.little_endian.specs.Bytes.{written}
 use Rattle.records.specs.Records.{headBytes}
 use Rattle.records.specs.declared.Head.{Head}
 use Rattle.records.proofs.Sizes.{head-length}
-use Rattle.solver.specs.Solve.{Response, refusalFor, refusalBytes, recordOf, responseOf}
+use Rattle.solution.specs.Solve.{Response, refusalFor, refusalBytes, recordOf, responseOf}
 use Rattle.solver.proofs.Recorded.{when-answered, when-refused, no-room, has-room}
 use borrow.Author.Needs.{needs}
 use Rattle.solver.proofs.responses.respond.Statement.{statement}

@@ -1,0 +1,5 @@
+pub mod Roots
+pub mod Shapes
+pub mod Questions
+pub mod Times
+pub mod Worked

@@ -1,0 +1,192 @@
+-- What holds of every crossing's bracket: along the halving the interval stays within its pair, 2^(20−h) wide, with its ends on opposite sides, and halving comes to no other interval at which it stops.
+use mathlib.Core.Path.{_≡_, refl, sym, ap, _∙_, subst}
+use mathlib.Core.Bool.{Bool, true, false, cond}
+use mathlib.Core.Logic.{_⊎_, inl, inr}
+use Prim.Native.Nat.{ℕ, zero, suc, _+_, _-_, _^_, _≤_, _<_}
+use native.Mathlib.Omega.{arith}
+use lib.IntN.{ℤ, pos, _+ℤ_, +ℤ-idr, +ℤ-assoc}
+use Rattle.bisection.specs.declared.Bracket.{Bracket}
+use Rattle.stations.specs.declared.side.Side.{Side}
+use Rattle.stations.specs.Sides.{opposite, isUnknown}
+use Rattle.stations.specs.Stations.{stationOf}
+use Rattle.bisection.specs.Halving.{middleOf, stops, bisectOf}
+use Rattle.bisection.specs.Pairs.{crosses, bracketOf}
+use Rattle.crossing_laws.specs.Brackets.{Comes, start, keeps-lower, keeps-upper, IsBracket}
+use Rattle.stations.proofs.Places.{next-station}
+use Rattle.bisection.proofs.Halving.{same-side, lower-known, upper-known, up-less, middle, top, up-twice, middle-is, stops-is, step}
+
+module _ (σ : ℤ → Side) (a b : ℤ) where
+  -- the interval from x, of the width 2^n, in the halving of the pair from a to b
+  record Along (x : ℤ) (n h : ℕ) : Type 0 where
+    pub fromLower : ℕ
+    pub lowerIs : x ≡ a +ℤ pos fromLower
+    pub toUpper : ℕ
+    pub upperIs : b ≡ x +ℤ pos (2 ^ n) +ℤ pos toUpper
+    pub left : h + n ≡ 20
+    pub ends : opposite (σ x) (σ (x +ℤ pos (2 ^ n))) ≡ true
+    pub comes : Comes σ a b x (x +ℤ pos (2 ^ n)) h
+
+  -- where it stops
+  stopping : (x : ℤ) (n h : ℕ) → Along x n h → (x +ℤ pos (2 ^ n) ≡ x +ℤ pos 1) ⊎ (isUnknown (σ (middleOf x (x +ℤ pos (2 ^ n)))) ≡ true) → stops σ x (x +ℤ pos (2 ^ n)) ≡ true →
+      IsBracket σ a b (record { lower = x; upper = x +ℤ pos (2 ^ n); halvings = h })
+  stopping x n h v s e =
+      let w : 20 - h ≡ n = omega (arith, v .left) in
+      record {
+        fromLower = v .fromLower;
+        lowerIs = v .lowerIs;
+        toUpper = v .toUpper;
+        upperIs = v .upperIs;
+        width = rw w;
+        most = omega (arith, v .left);
+        lowerTimed = lower-known (σ x) (σ (x +ℤ pos (2 ^ n))) (v .ends);
+        upperTimed = upper-known (σ x) (σ (x +ℤ pos (2 ^ n))) (v .ends);
+        ends = v .ends;
+        stopped = s;
+        reached = v .comes;
+        ended = e;
+      }
+
+  module _ (x : ℤ) (n h : ℕ) (v : Along x (suc n) h) (e : isUnknown (σ (middle x n)) ≡ false) where
+    lower-half : opposite (σ x) (σ (middle x n)) ≡ true → Along x n (h + 1)
+    lower-half o =
+        record {
+          fromLower = v .fromLower;
+          lowerIs = v .lowerIs;
+          toUpper = 2 ^ n + v .toUpper;
+          upperIs = v .upperIs ∙ ap (λ (z : ℤ). z +ℤ pos (v .toUpper)) (sym (up-twice x n)) ∙ +ℤ-assoc (middle x n) (pos (2 ^ n)) (pos (v .toUpper));
+          left = omega (arith, v .left);
+          ends = o;
+          comes =
+              subst (λ (z : ℤ). Comes σ a b x z (h + 1)) (middle-is x n)
+              (keeps-lower (v .comes) (stops-is x n σ ∙ e) (rw (middle-is x n) o));
+        }
+
+    upper-half : opposite (σ x) (σ (middle x n)) ≡ false → Along (middle x n) n (h + 1)
+    upper-half o =
+        record {
+          fromLower = v .fromLower + 2 ^ n;
+          lowerIs = ap (λ (z : ℤ). z +ℤ pos (2 ^ n)) (v .lowerIs) ∙ +ℤ-assoc a (pos (v .fromLower)) (pos (2 ^ n));
+          toUpper = v .toUpper;
+          upperIs = v .upperIs ∙ ap (λ (z : ℤ). z +ℤ pos (v .toUpper)) (sym (up-twice x n));
+          left = omega (arith, v .left);
+          ends = rw (up-twice x n, ← same-side (σ x) (σ (middle x n)) (lower-known (σ x) (σ (top x n)) (v .ends)) e o) (v .ends);
+          comes =
+              subst (λ (z : ℤ). Comes σ a b (middle x n) z (h + 1)) (sym (up-twice x n))
+              (subst (λ (z : ℤ). Comes σ a b z (top x n) (h + 1)) (middle-is x n)
+              (keeps-upper (v .comes) (stops-is x n σ ∙ e) (rw (middle-is x n) o)));
+        }
+
+  -- one step of the definition: it stops at a void middle, else it goes on in the half that still crosses
+  choose : (x : ℤ) (n h : ℕ) (u o : Bool) (p q : Bracket) → Along x (suc n) h → isUnknown (σ (middle x n)) ≡ u → opposite (σ x) (σ (middle x n)) ≡ o →
+      (Along x n (h + 1) → IsBracket σ a b p) → (Along (middle x n) n (h + 1) → IsBracket σ a b q) →
+      IsBracket σ a b (cond u (record { lower = x; upper = top x n; halvings = h }) (cond o p q))
+  choose x n h true o p q v e d f g = stopping x (suc n) h v (inr (rw (middle-is x n) e)) (stops-is x n σ ∙ e)
+  choose x n h false true p q v e d f g = f (lower-half x n h v e d)
+  choose x n h false false p q v e d f g = g (upper-half x n h v e d)
+
+  -- every interval on the way ends in a bracket of the pair
+  ends-in : (n h : ℕ) (x : ℤ) → Along x n h → IsBracket σ a b (bisectOf σ n h x (x +ℤ pos (2 ^ n)))
+  unfolding bisectOf
+  ends-in zero h x v = stopping x zero h v (inl refl) (rw (up-less x 1))
+  ends-in (suc n) h x v =
+      subst (IsBracket σ a b) (sym (step x n σ h))
+      (choose x n h (isUnknown (σ (middle x n))) (opposite (σ x) (σ (middle x n))) (bisectOf σ n (h + 1) x (middle x n)) (bisectOf σ n (h + 1) (middle x n) (top x n)) v refl refl
+      (ends-in n (h + 1) x)
+      (λ w. subst (λ (z : ℤ). IsBracket σ a b (bisectOf σ n (h + 1) (middle x n) z)) (up-twice x n) (ends-in n (h + 1) (middle x n) w)))
+
+-- the bracket of a crossing is one
+pub bracket-holds : (σ : ℤ → Side) (i : ℕ) → crosses σ i ≡ true → IsBracket σ (stationOf i) (stationOf (i + 1)) (bracketOf σ i)
+unfolding bracketOf crosses
+bracket-holds σ i e =
+    rw (next-station i)
+    (ends-in σ (stationOf i) (stationOf i +ℤ pos (2 ^ 20)) 20 0 (stationOf i)
+    (record {
+      fromLower = 0;
+      lowerIs = sym (+ℤ-idr (stationOf i));
+      toUpper = 0;
+      upperIs = sym (+ℤ-idr (stationOf i +ℤ pos (2 ^ 20)));
+      left = refl;
+      ends = rw (next-station i) at e;
+      comes = start;
+    }))
+
+-- ---- no other interval
+
+module _ (σ : ℤ → Side) (a : ℤ) where
+  -- the definition, at an interval that the halving comes to
+  record Follows (x y : ℤ) (h : ℕ) : Type 0 where
+    pub most : h ≤ 20
+    pub width : y ≡ x +ℤ pos (2 ^ (20 - h))
+    pub goes : bisectOf σ 20 0 a (a +ℤ pos (2 ^ 20)) ≡ bisectOf σ (20 - h) h x y
+
+  -- an interval that does not stop is wider than 1
+  wider : (x y : ℤ) (h k : ℕ) → 20 - h ≡ k → y ≡ x +ℤ pos (2 ^ k) → stops σ x y ≡ false → h < 20
+  wider x y h zero e w s =
+      let t : stops σ x y ≡ true = rw (w, up-less x 1) in
+      let z : _≡_ {A = ℕ} 0 1 = cc (t, s) in
+      omega (arith, z)
+  wider x y h (suc k) e w s = omega arith
+
+  module _ {x y : ℤ} {h : ℕ} (v : Follows x y h) (s : stops σ x y ≡ false) where
+    more : h < 20
+    more = wider x y h (20 - h) refl (v .width) s
+
+    rest : 20 - h ≡ suc (20 - (h + 1))
+    rest = omega (arith, more)
+
+    is-top : y ≡ top x (20 - (h + 1))
+    is-top = v .width ∙ ap (λ (k : ℕ). x +ℤ pos (2 ^ k)) rest
+
+    is-middle : middleOf x y ≡ middle x (20 - (h + 1))
+    is-middle = ap (middleOf x) is-top ∙ middle-is x (20 - (h + 1))
+
+    known : isUnknown (σ (middle x (20 - (h + 1)))) ≡ false
+    known = sym (stops-is x (20 - (h + 1)) σ) ∙ ap (stops σ x) (sym is-top) ∙ s
+
+    next : bisectOf σ (20 - h) h x y
+        ≡ cond (opposite (σ x) (σ (middleOf x y))) (bisectOf σ (20 - (h + 1)) (h + 1) x (middleOf x y)) (bisectOf σ (20 - (h + 1)) (h + 1) (middleOf x y) y)
+    next = rw (is-middle, is-top) (ap (λ (k : ℕ). bisectOf σ k h x (top x (20 - (h + 1)))) rest ∙ step x (20 - (h + 1)) σ h ∙ rw known)
+
+    lower-follows : opposite (σ x) (σ (middleOf x y)) ≡ true → Follows x (middleOf x y) (h + 1)
+    lower-follows o = record { most = omega (arith, more); width = is-middle; goes = v .goes ∙ next ∙ rw o }
+
+    upper-follows : opposite (σ x) (σ (middleOf x y)) ≡ false → Follows (middleOf x y) y (h + 1)
+    upper-follows o =
+        record {
+          most = omega (arith, more);
+          width = is-top ∙ sym (up-twice x (20 - (h + 1))) ∙ ap (λ (z : ℤ). z +ℤ pos (2 ^ (20 - (h + 1)))) (sym is-middle);
+          goes = v .goes ∙ next ∙ rw o;
+        }
+
+  follows : (x y : ℤ) (h : ℕ) → Comes σ a (a +ℤ pos (2 ^ 20)) x y h → Follows x y h
+  follows x y h start = record { most = omega arith; width = refl; goes = refl }
+  follows x y h (keeps-lower c s o) = lower-follows (follows _ _ _ c) s o
+  follows x y h (keeps-upper c s o) = upper-follows (follows _ _ _ c) s o
+
+  -- how wide an interval is that the halving comes to
+  pub width-at : (x y : ℤ) (h : ℕ) → Comes σ a (a +ℤ pos (2 ^ 20)) x y h → (h ≤ 20) × (y ≡ x +ℤ pos (2 ^ (20 - h)))
+  width-at x y h c = (follows x y h c .most, follows x y h c .width)
+
+  at-stop : (n h : ℕ) (x y : ℤ) → stops σ x y ≡ true → bisectOf σ n h x y ≡ record { lower = x; upper = y; halvings = h }
+  unfolding bisectOf
+  at-stop zero h x y e = refl
+  at-stop (suc n) h x y e = rw e
+
+-- an interval that the halving of a pair comes to and stops at is the pair's bracket
+pub only-one : (σ : ℤ → Side) (i : ℕ) (x y : ℤ) (h : ℕ) → Comes σ (stationOf i) (stationOf (i + 1)) x y h → stops σ x y ≡ true → bracketOf σ i ≡ record { lower = x; upper = y; halvings = h }
+unfolding bracketOf
+only-one σ i x y h c e =
+    rw (next-station i)
+    (follows σ (stationOf i) x y h (subst (λ (z : ℤ). Comes σ (stationOf i) z x y h) (next-station i) c) .goes ∙ at-stop σ (stationOf i) (20 - h) h x y e)
+
+-- every interval that the halving of a pair comes to has the width 2^(20−h); while it is wider than 1, its middle is halfway and strictly inside
+pub comes-width : (σ : ℤ → Side) (i : ℕ) (x y : ℤ) (h : ℕ) → Comes σ (stationOf i) (stationOf (i + 1)) x y h → (h ≤ 20) × (y ≡ x +ℤ pos (2 ^ (20 - h)))
+comes-width σ i x y h c = width-at σ (stationOf i) x y h (subst (λ (z : ℤ). Comes σ (stationOf i) z x y h) (next-station i) c)
+
+pub comes-middle : (σ : ℤ → Side) (i : ℕ) (x y : ℤ) (h : ℕ) → Comes σ (stationOf i) (stationOf (i + 1)) x y h → h < 20 →
+    (middleOf x y ≡ x +ℤ pos (2 ^ (19 - h))) × (y ≡ middleOf x y +ℤ pos (2 ^ (19 - h)))
+comes-middle σ i x y h c l =
+    let e : 20 - h ≡ suc (19 - h) = omega (arith, l) in
+    let t : y ≡ top x (19 - h) = comes-width σ i x y h c .1 ∙ ap (λ (k : ℕ). x +ℤ pos (2 ^ k)) e in
+    let m : middleOf x y ≡ middle x (19 - h) = ap (middleOf x) t ∙ middle-is x (19 - h) in
+    (m, t ∙ sym (up-twice x (19 - h)) ∙ ap (λ (z : ℤ). z +ℤ pos (2 ^ (19 - h))) (sym m))

@@ -1,0 +1,126 @@
+-- Sides word for word, and 01's corners: over any place at each k and any wanted time.
+use mathlib.Core.Path.{_≡_, refl, sym}
+use mathlib.Core.Bool.{Bool, true, false, cond}
+use mathlib.Core.Logic.{_↔_}
+use Prim.Native.Nat.{ℕ, _+_, _≤_}
+use native.Mathlib.Omega.{arith}
+use lib.IntN.{ℤ}
+use lib.Ieee.{Float}
+use Rattle.float64.specs.Notation.{_≺_, _≈_}
+use Rattle.float64.proofs.Comparisons.{above-not-below, equal-not-below}
+use Rattle.flight_time.specs.declared.Place.{Place}
+use Rattle.flight_time.specs.declared.Place.the-variants.{Timed, Void}
+use Rattle.stations.specs.declared.side.Side.{Side}
+use Rattle.stations.specs.declared.side.Side.the-variants.{Below, NotBelow, Unknown}
+use Rattle.stations.specs.Sides.{sideOf, opposite, isUnknown}
+use Rattle.stations.specs.Stations.{stationOf}
+use Rattle.bisection.specs.Pairs.{crosses}
+use Rattle.sweep.specs.Crossings.{sweepOf}
+use Rattle.crossing_laws.proofs.Theorems.{none-exactly}
+
+-- ---- sides
+
+-- the place has a time T with T < T*, and one without T < T*
+abbrev pub TimedBelow : Place → Float → Type 0
+TimedBelow p w = (t : Float) × ((p ≡ Timed t) × ((t ≺ w) ≡ true))
+
+abbrev pub TimedNotBelow : Place → Float → Type 0
+TimedNotBelow p w = (t : Float) × ((p ≡ Timed t) × ((t ≺ w) ≡ false))
+
+no-side : {P : Type 0} {a b : Side} → a ≡ b → isUnknown a ≡ true → isUnknown b ≡ false → P
+no-side e p q = absurd (let z : _≡_ {A = ℕ} 0 1 = cc (e, p, q) in omega (arith, z))
+
+other-side : {P : Type 0} → Below ≡ NotBelow → P
+other-side e = absurd (let z : _≡_ {A = ℕ} 0 1 = cc e in omega (arith, z))
+
+pub no-place : {P : Type 0} {t : Float} → Void ≡ Timed t → P
+no-place e = absurd (let z : _≡_ {A = ℕ} 0 1 = cc e in omega (arith, z))
+
+below-by : (t w : Float) (b : Bool) → (t ≺ w) ≡ b → cond b Below NotBelow ≡ Below → TimedBelow (Timed t) w
+below-by t w true e h = (t, (refl, e))
+below-by t w false e h = other-side (sym h)
+
+not-below-by : (t w : Float) (b : Bool) → (t ≺ w) ≡ b → cond b Below NotBelow ≡ NotBelow → TimedNotBelow (Timed t) w
+not-below-by t w true e h = other-side h
+not-below-by t w false e h = (t, (refl, e))
+
+known-by : (b : Bool) → isUnknown (cond b Below NotBelow) ≡ false
+known-by true = refl
+known-by false = refl
+
+pub below-exactly : (p : Place) (w : Float) → (sideOf p w ≡ Below) ↔ TimedBelow p w
+unfolding sideOf
+below-exactly (Timed t) w = (below-by t w (t ≺ w) refl, λ h. cc (h .1 .0, h .1 .1))
+below-exactly Void w = (λ e. no-side e refl refl, λ h. no-place (h .1 .0))
+
+pub not-below-exactly : (p : Place) (w : Float) → (sideOf p w ≡ NotBelow) ↔ TimedNotBelow p w
+unfolding sideOf
+not-below-exactly (Timed t) w = (not-below-by t w (t ≺ w) refl, λ h. cc (h .1 .0, h .1 .1))
+not-below-exactly Void w = (λ e. no-side e refl refl, λ h. no-place (h .1 .0))
+
+pub unknown-exactly : (p : Place) (w : Float) → (sideOf p w ≡ Unknown) ↔ (p ≡ Void)
+unfolding sideOf
+unknown-exactly (Timed t) w = (λ e. no-side (sym e) refl (known-by (t ≺ w)), λ h. no-place (sym h))
+unknown-exactly Void w = (λ e. refl, λ h. refl)
+
+-- two sides of which none is below are not opposite
+pub none-below : (a b : Side) → (a ≡ Below → ⊥) → (b ≡ Below → ⊥) → opposite a b ≡ false
+none-below Below b f g = absurd (f refl)
+none-below NotBelow Below f g = absurd (g refl)
+none-below NotBelow NotBelow f g = refl
+none-below NotBelow Unknown f g = refl
+none-below Unknown b f g = refl
+
+-- ---- corners: the place at each k, and the wanted time
+
+module _ (τ : ℤ → Place) (w : Float) where
+  -- the side of each place
+  abbrev pub sides : ℤ → Side
+  sides k = sideOf (τ k) w
+
+  -- station i has a time below the wanted one, above it, or equal to it
+  abbrev pub IsBelow : ℕ → Type 0
+  IsBelow i = TimedBelow (τ (stationOf i)) w
+
+  abbrev pub IsAbove : ℕ → Type 0
+  IsAbove i = (t : Float) × ((τ (stationOf i) ≡ Timed t) × ((w ≺ t) ≡ true))
+
+  abbrev pub IsEqual : ℕ → Type 0
+  IsEqual i = (t : Float) × ((τ (stationOf i) ≡ Timed t) × ((t ≈ w) ≡ true))
+
+  on-below : (i : ℕ) → IsBelow i → sides (stationOf i) ≡ Below
+  on-below i h = below-exactly (τ (stationOf i)) w .1 h
+
+  on-above : (i : ℕ) → IsAbove i → sides (stationOf i) ≡ NotBelow
+  on-above i h = not-below-exactly (τ (stationOf i)) w .1 (h .0, (h .1 .0, above-not-below (h .0) w (h .1 .1)))
+
+  on-equal : (i : ℕ) → IsEqual i → sides (stationOf i) ≡ NotBelow
+  on-equal i h = not-below-exactly (τ (stationOf i)) w .1 (h .0, (h .1 .0, equal-not-below (h .0) w (h .1 .1)))
+
+  -- a station equal to T* on a slope makes one crossing, not two
+  pub rising-slope : (i : ℕ) → IsBelow i → IsEqual (i + 1) → IsAbove (i + 1 + 1) → (crosses sides i ≡ true) × (crosses sides (i + 1) ≡ false)
+  unfolding crosses
+  rising-slope i a b c = (rw (on-below i a, on-equal (i + 1) b), rw (on-equal (i + 1) b, on-above (i + 1 + 1) c))
+
+  pub falling-slope : (i : ℕ) → IsAbove i → IsEqual (i + 1) → IsBelow (i + 1 + 1) → (crosses sides i ≡ false) × (crosses sides (i + 1) ≡ true)
+  unfolding crosses
+  falling-slope i a b c = (rw (on-above i a, on-equal (i + 1) b), rw (on-equal (i + 1) b, on-below (i + 1 + 1) c))
+
+  -- a dip that only touches T* makes none
+  pub touching-dip : (i : ℕ) → IsAbove i → IsEqual (i + 1) → IsAbove (i + 1 + 1) → (crosses sides i ≡ false) × (crosses sides (i + 1) ≡ false)
+  unfolding crosses
+  touching-dip i a b c = (rw (on-above i a, on-equal (i + 1) b), rw (on-equal (i + 1) b, on-above (i + 1 + 1) c))
+
+  -- a single station equal to T* between two below makes two
+  pub equal-between : (i : ℕ) → IsBelow i → IsEqual (i + 1) → IsBelow (i + 1 + 1) → (crosses sides i ≡ true) × (crosses sides (i + 1) ≡ true)
+  unfolding crosses
+  equal-between i a b c = (rw (on-below i a, on-equal (i + 1) b), rw (on-equal (i + 1) b, on-below (i + 1 + 1) c))
+
+  -- a last station equal to T* with none below makes none
+  pub equal-last : (last : ℕ) → IsEqual last → ((i : ℕ) → i ≤ last → IsBelow i → ⊥) → sweepOf sides last .count ≡ 0
+  unfolding crosses
+  equal-last last e f =
+      none-exactly sides last .1 (λ i h.
+      none-below (sides (stationOf i)) (sides (stationOf (i + 1)))
+      (λ a. f i (omega (arith, h)) (below-exactly (τ (stationOf i)) w .0 a))
+      (λ b. f (i + 1) (omega (arith, h)) (below-exactly (τ (stationOf (i + 1))) w .0 b)))

@@ -1,0 +1,55 @@
+-- A place's time is a finite number (`timed-finite`), never an infinity or a NaN.
+use Prim.Native.Nat.{ℕ}
+use mathlib.Core.Path.{_≡_, refl, sym, ap, _∙_, subst}
+use mathlib.Core.Bool.{Bool, true, false, not}
+use native.Mathlib.Omega.{arith}
+use lib.IntN.{ℤ}
+use lib.Ieee.{Float}
+use Rattle.float64.specs.Value.{finiteOf}
+use Rattle.geometry.specs.declared.Triangle.{Triangle}
+use Rattle.hypergeometric.specs.Steps.{halvedOf, climbedOf}
+use Rattle.flight_time.specs.Steps.{outsideRange, xOf, uOf, directOf, revolvedOf}
+use Rattle.flight_time.specs.Time.{voidIf, afterStage, afterHalved, timeOf}
+use Rattle.hypergeometric.specs.declared.stages.Angles.{Angles}
+use Rattle.hypergeometric.specs.declared.stages.Stage.{Stage}
+use Rattle.hypergeometric.specs.declared.stages.Stage.the-variants.{Number, Void}
+use Rattle.hypergeometric.specs.declared.stages.Halved.{Halved}
+use Rattle.hypergeometric.specs.declared.stages.Halved.the-variants.{Thrice, Void}
+use Rattle.flight_time.specs.declared.Place.{Place}
+use Rattle.flight_time.specs.declared.Place.the-variants.{Timed, Void}
+
+-- what holds of the time of a place, wherever it has one
+abbrev Finite : Place → Type 0
+Finite p = (time : Float) → p ≡ Timed time → finiteOf time ≡ true
+
+no-time : Finite Void
+no-time time e = let z : _≡_ {A = ℕ} 0 1 = cc in absurd (zero-one z)
+  where
+    zero-one : _≡_ {A = ℕ} 0 1 → ⊥
+    zero-one e′ = omega arith
+
+last-test : (time : Float) (b : Bool) → finiteOf time ≡ b → Finite (voidIf (not b) (Timed time))
+last-test time true h other e = subst (λ (x : Float). finiteOf x ≡ true) (cc) h
+last-test time false h other e = no-time other e
+
+if-not : (b : Bool) (p : Place) → Finite p → Finite (voidIf b p)
+if-not true p f = no-time
+if-not false p f = f
+
+by-stage : (s : Stage) (next : Float → Place) → ((x : Float) → Finite (next x)) → Finite (afterStage s next)
+by-stage (Number x) next f = f x
+by-stage Void next f = no-time
+
+by-halved : (h : Halved) (next : Angles → Place) → ((v : Angles) → Finite (next v)) → Finite (afterHalved h next)
+by-halved (Thrice v) next f = f v
+by-halved Void next f = no-time
+
+pub timed-finite : (t : Triangle) (k : ℤ) (m : ℕ) (time : Float) → timeOf t k m ≡ Timed time → finiteOf time ≡ true
+unfolding timeOf
+timed-finite t k m =
+    let u = uOf (xOf k) in
+    if-not (outsideRange (t .lambda) k m) _
+    (by-halved (halvedOf (t .lambda) (xOf k) u) _ (λ v.
+    by-stage (climbedOf v) _ (λ g.
+    by-stage (revolvedOf (directOf (t .lambda) (v .eta) g) u m) _ (λ x.
+    last-test x (finiteOf x) refl))))

@@ -1,0 +1,325 @@
+-- What the sweep's definition says, in words that a person can hold beside 01: over any side of each place, for the stations from 0 to `last`. The brackets' own theorems are `bracket-holds` and `only-one` in BracketLaws.
+use mathlib.Core.Path.{_≡_, refl, sym, ap, _∙_, subst}
+use mathlib.Core.Bool.{Bool, true, false}
+use mathlib.Core.Logic.{_⊎_, inl, inr, ⊎-elim, _↔_}
+use mathlib.Core.List.{List, [], _∷_, _++_}
+use Prim.Native.Nat.{ℕ, zero, suc, _+_, _-_, _*_, _^_, _≤_, _<_, min}
+use native.Mathlib.Omega.{arith}
+use borrow.Author.Tests.{ltb-true, ltb-false, lt-ltb, le-ltb, ne-eqb}
+use lib.Dec.{ltb}
+use lib.ListN.{length, getD, take, replicate, length-map, length-take, length-append, length-replicate, List·getD-append, List·getD-map}
+use lib.Seq.{getD-take, take-all, take-append-seam}
+use native.Mathlib.Nat.{add-zero, add-assoc}
+use native.Mathlib.Numerals.{add-one}
+use lib.IntN.{ℤ, pos, negℤ, _+ℤ_, +ℤ-assoc, +ℤ-idr}
+use Rattle.flight_time.specs.Steps.{lowest, highest, highestRevolving}
+use Rattle.bisection.specs.declared.Bracket.{Bracket}
+use Rattle.stations.specs.declared.side.Side.{Side}
+use Rattle.stations.specs.declared.side.Side.the-variants.{Below, NotBelow, Unknown}
+use Rattle.sweep.specs.declared.Walk.the-variants.{AllTimed, SomeVoid, NinthFound}
+use Rattle.stations.specs.Sides.{opposite, isUnknown}
+use Rattle.stations.specs.Stations.{stationOf, lastOf}
+use Rattle.bisection.specs.Pairs.{crosses, bracketOf}
+use Rattle.sweep.specs.Crossings.{upTo, some, crossings, someVoid, brackets, blank, walkOf, reported, sweepOf}
+use Rattle.crossing_laws.specs.Listed.{Listed, Rising}
+use Rattle.bisection.proofs.Halving.{same-side, lower-known, upper-known}
+use Rattle.stations.proofs.Places.{next-station}
+use Rattle.crossing_laws.proofs.BracketLaws.{bracket-holds}
+use Rattle.crossing_laws.proofs.Keeping.{listed-up, up-listed, rising-up, kept, keeps, rising-keep, some-yes, some-found}
+
+-- no Boolean is both
+pub clash : {P : Type 0} {b : Bool} → b ≡ true → b ≡ false → P
+clash e f = absurd (let z : _≡_ {A = ℕ} 0 1 = cc (e, f) in omega (arith, z))
+
+-- ---- stations: j from −4095, 2^20 apart, to 16384 for M = 0, and to 4095 for M ≥ 1
+
+pub first-station : stationOf 0 ≡ negℤ (pos (4095 * 2 ^ 20))
+unfolding stationOf
+first-station = refl
+
+pub last-station : stationOf (lastOf 0) ≡ pos (16384 * 2 ^ 20)
+unfolding stationOf lastOf
+last-station = refl
+
+revolving : (m : ℕ) → 1 ≤ m → lastOf m ≡ 8190
+unfolding lastOf
+revolving m h = rw (ne-eqb m 0 (λ e. omega (arith, e)))
+
+pub last-revolving : (m : ℕ) → 1 ≤ m → stationOf (lastOf m) ≡ pos (4095 * 2 ^ 20)
+unfolding stationOf
+last-revolving m h = ap stationOf (revolving m h)
+
+pub neighbours : (i : ℕ) → stationOf (i + 1) ≡ stationOf i +ℤ pos (2 ^ 20)
+neighbours i = next-station i
+
+-- they begin and end where the range of the time does
+pub from-lowest : stationOf 0 ≡ lowest
+unfolding stationOf
+from-lowest = refl
+
+pub to-highest : stationOf (lastOf 0) ≡ highest
+unfolding stationOf lastOf
+to-highest = refl
+
+pub to-highest-revolving : (m : ℕ) → 1 ≤ m → stationOf (lastOf m) ≡ highestRevolving
+to-highest-revolving m h = last-revolving m h
+
+-- 20,480 stations for M = 0, and 8,191 for M ≥ 1
+pub station-count : lastOf 0 + 1 ≡ 20480
+unfolding lastOf
+station-count = refl
+
+pub station-count-revolving : (m : ℕ) → 1 ≤ m → lastOf m + 1 ≡ 8191
+station-count-revolving m h = ap (λ (n : ℕ). n + 1) (revolving m h)
+
+-- ---- a crossing: both stations have times, on different sides
+
+sides-differ : (a b : Side) → opposite a b ≡ true → a ≡ b → ⊥
+sides-differ Below NotBelow e d = absurd (let z : _≡_ {A = ℕ} 0 1 = cc d in omega (arith, z))
+sides-differ NotBelow Below e d = absurd (let z : _≡_ {A = ℕ} 0 1 = cc d in omega (arith, z))
+sides-differ Below Below e d = clash e refl
+sides-differ NotBelow NotBelow e d = clash e refl
+sides-differ Below Unknown e d = clash e refl
+sides-differ NotBelow Unknown e d = clash e refl
+sides-differ Unknown b e d = clash e refl
+
+opposite-by : (a b : Side) (o : Bool) → opposite a b ≡ o → isUnknown a ≡ false → isUnknown b ≡ false → (a ≡ b → ⊥) → o ≡ true
+opposite-by a b true e p q d = refl
+opposite-by a b false e p q d = absurd (d (same-side a b p q e))
+
+pub crosses-exactly : (σ : ℤ → Side) (i : ℕ) →
+    (crosses σ i ≡ true)
+    ↔ ((isUnknown (σ (stationOf i)) ≡ false) × (isUnknown (σ (stationOf (i + 1))) ≡ false) × (σ (stationOf i) ≡ σ (stationOf (i + 1)) → ⊥))
+unfolding crosses
+crosses-exactly σ i =
+    let a = σ (stationOf i) in
+    let b = σ (stationOf (i + 1)) in (
+      λ e. (lower-known a b e, upper-known a b e, sides-differ a b e),
+      λ h. opposite-by a b (opposite a b) refl (h .0) (h .1) (h .2),
+    )
+
+-- ---- how a walk ends, by its two tests
+
+walk-ninth : (ninth void : Bool) → walkOf ninth void ≡ NinthFound → ninth ≡ true
+walk-ninth true void e = refl
+walk-ninth false true e = cc
+walk-ninth false false e = cc
+
+walk-void : (ninth void : Bool) → walkOf ninth void ≡ SomeVoid → (ninth ≡ false) × (void ≡ true)
+walk-void true void e = (cc, cc)
+walk-void false true e = (refl, refl)
+walk-void false false e = (refl, cc)
+
+walk-timed : (ninth void : Bool) → walkOf ninth void ≡ AllTimed → (ninth ≡ false) × (void ≡ false)
+walk-timed true void e = (cc, cc)
+walk-timed false true e = (refl, cc)
+walk-timed false false e = (refl, refl)
+
+pub false-by : (b : Bool) → (b ≡ true → ⊥) → b ≡ false
+false-by true f = absurd (f refl)
+false-by false f = refl
+
+-- ---- places of a list
+
+any-default : (l : List Bracket) (e : ℕ) (c d : Bracket) → e < length l → getD l e c ≡ getD l e d
+any-default [] e c d h = absurd (omega arith)
+any-default (x ∷ xs) zero c d h = refl
+any-default (x ∷ xs) (suc e) c d h = any-default xs e c d (omega arith)
+
+all-blank : (n e : ℕ) → getD (replicate n blank) e blank ≡ blank
+all-blank zero e = refl
+all-blank (suc n) zero = refl
+all-blank (suc n) (suc e) = all-blank n e
+
+padded : (l : List Bracket) (n e : ℕ) → length l ≤ e → getD (l ++ replicate n blank) e blank ≡ blank
+padded [] n e h = all-blank n e
+padded (x ∷ xs) n zero h = absurd (omega arith)
+padded (x ∷ xs) n (suc e) h = padded xs n e (omega arith)
+
+-- ---- which place of a list a number has
+
+listed-at : (e : ℕ) (xs : List ℕ) → e < length xs → Listed (getD xs e 0) xs
+unfolding Listed
+listed-at e [] h = absurd (omega arith)
+listed-at zero (x ∷ xs) h = inl refl
+listed-at (suc e) (x ∷ xs) h = inr (listed-at e xs (omega arith))
+
+at-listed : (i : ℕ) (xs : List ℕ) → Listed i xs → (e : ℕ) × ((e < length xs) × (getD xs e 0 ≡ i))
+unfolding Listed
+at-listed i [] h = absurd h
+at-listed i (x ∷ xs) h = ⊎-elim (λ d. (0, (omega arith, sym d))) (λ l. let r = at-listed i xs l in (suc (r .0), (omega (arith, r .1 .0), r .1 .1))) h
+
+rising-at : (e f : ℕ) (xs : List ℕ) → Rising xs → e < f → f < length xs → getD xs e 0 < getD xs f 0
+unfolding Rising
+rising-at e f [] r l h = absurd (omega arith)
+rising-at e zero (x ∷ xs) r l h = absurd (omega arith)
+rising-at zero (suc f) (x ∷ xs) r l h = r .0 (getD xs f 0) (listed-at f xs (omega arith))
+rising-at (suc e) (suc f) (x ∷ xs) r l h = rising-at e f xs (r .1) (omega arith) (omega arith)
+
+-- ---- brackets of different pairs
+
+stations-up : (i n : ℕ) → stationOf (i + n) ≡ stationOf i +ℤ pos (n * 2 ^ 20)
+stations-up i zero = rw add-zero (sym (+ℤ-idr (stationOf i)))
+stations-up i (suc n) =
+    let s : n * 2 ^ 20 + 2 ^ 20 ≡ suc n * 2 ^ 20 = omega arith in
+    ap stationOf (sym (add-assoc i n 1 ∙ ap (λ (k : ℕ). i + k) (add-one n)))
+    ∙ next-station (i + n)
+    ∙ ap (λ (z : ℤ). z +ℤ pos (2 ^ 20)) (stations-up i n)
+    ∙ +ℤ-assoc (stationOf i) (pos (n * 2 ^ 20)) (pos (2 ^ 20))
+    ∙ ap (λ (k : ℕ). stationOf i +ℤ pos k) s
+
+pairs-rise : (σ : ℤ → Side) (i j : ℕ) → i < j → crosses σ i ≡ true → crosses σ j ≡ true → (d : ℕ) × (bracketOf σ j .lower ≡ bracketOf σ i .upper +ℤ pos d)
+pairs-rise σ i j l p q =
+    let a = bracket-holds σ i p in
+    let b = bracket-holds σ j q in
+    let n : ℕ = j - (i + 1) in
+    let e : j ≡ i + 1 + n = omega (arith, l) in (
+      a .toUpper + n * 2 ^ 20 + b .fromLower,
+      b .lowerIs
+          ∙ ap (λ (z : ℤ). z +ℤ pos (b .fromLower)) (ap stationOf e ∙ stations-up (i + 1) n ∙ ap (λ (z : ℤ). z +ℤ pos (n * 2 ^ 20)) (a .upperIs) ∙ +ℤ-assoc (bracketOf σ i .upper) (pos (a .toUpper)) (pos (n * 2 ^ 20)))
+          ∙ +ℤ-assoc (bracketOf σ i .upper) (pos (a .toUpper + n * 2 ^ 20)) (pos (b .fromLower)),
+    )
+
+module _ (σ : ℤ → Side) (last : ℕ) where
+  -- among all crossings a pair stands exactly when it crosses
+  pub listed-exactly : (i : ℕ) → Listed i (crossings σ last) ↔ ((i < last) × (crosses σ i ≡ true))
+  unfolding crossings
+  listed-exactly i = (
+    λ h. (listed-up i last (kept (crosses σ) i (upTo last) h .0), kept (crosses σ) i (upTo last) h .1),
+    λ h. keeps (crosses σ) i (upTo last) (h .1) (up-listed i last (h .0)),
+  )
+
+  -- they rise
+  pub rises : Rising (crossings σ last)
+  unfolding crossings
+  rises = rising-keep (crosses σ) (upTo last) (rising-up last)
+
+  -- as many brackets as crossings
+  pub length-is : length (brackets σ last) ≡ length (crossings σ last)
+  unfolding brackets
+  length-is = length-map (crossings σ last) (bracketOf σ)
+
+  -- the count is the number of crossings, where that is at most eight, and eight where it is more
+  pub counted : sweepOf σ last .count ≡ min 8 (length (crossings σ last))
+  unfolding sweepOf reported
+  counted = ap (min 8) length-is
+
+  -- eight places: the used ones hold the brackets of the crossings, in their order, and the others zeros
+  pub eight-places : length (sweepOf σ last .list) ≡ 8
+  unfolding sweepOf reported
+  eight-places =
+      let t = take 8 (brackets σ last) in
+      length-append t (replicate (8 - length t) blank)
+      ∙ ap (λ (k : ℕ). length t + k) (length-replicate (8 - length t) blank)
+      ∙ omega (arith, length-take 8 (brackets σ last))
+
+  pub in-order : (e : ℕ) → e < sweepOf σ last .count → getD (sweepOf σ last .list) e blank ≡ bracketOf σ (getD (crossings σ last) e 0)
+  unfolding sweepOf reported brackets
+  in-order e h =
+      let few : e < length (take 8 (brackets σ last)) = rw (length-take 8 (brackets σ last)) h in
+      let below : e < 8 = omega (arith, h) in
+      let some : e < length (brackets σ last) = omega (arith, h) in
+      List·getD-append (take 8 (brackets σ last)) _ blank e few
+      ∙ getD-take 8 (brackets σ last) e blank below
+      ∙ any-default (brackets σ last) e blank (bracketOf σ 0) some
+      ∙ List·getD-map (bracketOf σ) (crossings σ last) e 0
+
+  pub all-listed : length (crossings σ last) ≤ 8 → take (sweepOf σ last .count) (sweepOf σ last .list) ≡ brackets σ last
+  unfolding sweepOf reported
+  all-listed h =
+      let few : length (brackets σ last) ≤ 8 = omega (arith, length-is, h) in
+      let count : min 8 (length (brackets σ last)) ≡ length (brackets σ last) = omega (arith, few) in
+      rw (take-all 8 (brackets σ last) few, count) (take-append-seam (brackets σ last) (replicate (8 - length (brackets σ last)) blank))
+
+  pub unused : (e : ℕ) → sweepOf σ last .count ≤ e → getD (sweepOf σ last .list) e blank ≡ blank
+  unfolding sweepOf reported
+  unused e h = padded (take 8 (brackets σ last)) (8 - length (take 8 (brackets σ last))) e (rw (length-take 8 (brackets σ last)) h)
+
+  -- every used place holds the bracket of a pair that crosses; and where there are at most eight crossings, each has its place
+  pub only-crossings : (e : ℕ) → e < sweepOf σ last .count → (i : ℕ) × ((i < last) × (crosses σ i ≡ true) × (getD (sweepOf σ last .list) e blank ≡ bracketOf σ i))
+  only-crossings e h =
+      let l : e < length (crossings σ last) = omega (arith, h, counted) in
+      let c = listed-exactly (getD (crossings σ last) e 0) .0 (listed-at e (crossings σ last) l) in
+      (getD (crossings σ last) e 0, (c .0, c .1, in-order e h))
+
+  pub every-crossing : length (crossings σ last) ≤ 8 → (i : ℕ) → i < last → crosses σ i ≡ true → (e : ℕ) × ((e < sweepOf σ last .count) × (getD (sweepOf σ last .list) e blank ≡ bracketOf σ i))
+  every-crossing few i h y =
+      let p = at-listed i (crossings σ last) (listed-exactly i .1 (h, y)) in
+      let b : p .0 < sweepOf σ last .count = rw counted (omega (arith, p .1 .0, few)) in
+      (p .0, (b, in-order (p .0) b ∙ ap (bracketOf σ) (p .1 .1)))
+
+  -- the places rise in x: the upper end of one is at most the lower end of any later one
+  pub places-rise : (e f : ℕ) → e < f → f < sweepOf σ last .count →
+      (d : ℕ) × (getD (sweepOf σ last .list) f blank .lower ≡ getD (sweepOf σ last .list) e blank .upper +ℤ pos d)
+  places-rise e f l h =
+      let k : f < length (crossings σ last) = omega (arith, h, counted) in
+      let i = getD (crossings σ last) e 0 in
+      let j = getD (crossings σ last) f 0 in
+      let lower : e < sweepOf σ last .count = omega (arith, l, h) in
+      let near : e < length (crossings σ last) = omega (arith, l, k) in
+      let r = pairs-rise σ i j (rising-at e f (crossings σ last) rises l k) (listed-exactly i .0 (listed-at e (crossings σ last) near) .1) (listed-exactly j .0 (listed-at f (crossings σ last) k) .1) in
+      (r .0, rw (in-order e lower, in-order f h) (r .1))
+
+  -- a ninth is reported exactly when there are more than eight
+  pub ninth-exactly : (sweepOf σ last .walk ≡ NinthFound) ↔ (8 < length (crossings σ last))
+  unfolding sweepOf reported
+  ninth-exactly = (
+    λ e. subst (λ (n : ℕ). 8 < n) length-is (ltb-true 8 (length (brackets σ last)) (walk-ninth _ (someVoid σ last) e)),
+    λ h. rw (length-is, lt-ltb 8 (length (crossings σ last)) h),
+  )
+
+  -- some station is void: exactly that, over all stations, wherever there is no ninth crossing
+  pub void-at : (i : ℕ) → i ≤ last → isUnknown (σ (stationOf i)) ≡ true → someVoid σ last ≡ true
+  unfolding someVoid
+  void-at i h e = some-yes (λ j. isUnknown (σ (stationOf j))) i (upTo (last + 1)) (up-listed i (last + 1) (omega arith)) e
+
+  pub at-void : someVoid σ last ≡ true → (i : ℕ) × ((i ≤ last) × (isUnknown (σ (stationOf i)) ≡ true))
+  unfolding someVoid
+  at-void e =
+      let f = some-found (λ j. isUnknown (σ (stationOf j))) (upTo (last + 1)) e in
+      let k : f .0 < last + 1 = listed-up (f .0) (last + 1) (f .1 .0) in
+      (f .0, (omega (arith, k), f .1 .1))
+
+  abbrev ninth : Bool
+  ninth = ltb 8 (length (brackets σ last))
+
+  few : ninth ≡ false → length (crossings σ last) ≤ 8
+  few e = subst (λ (n : ℕ). n ≤ 8) length-is (ltb-false 8 (length (brackets σ last)) e)
+
+  pub void-exactly : (sweepOf σ last .walk ≡ SomeVoid) ↔ ((length (crossings σ last) ≤ 8) × ((i : ℕ) × ((i ≤ last) × (isUnknown (σ (stationOf i)) ≡ true))))
+  unfolding sweepOf reported
+  void-exactly = (
+    λ e. (few (walk-void ninth (someVoid σ last) e .0), at-void (walk-void ninth (someVoid σ last) e .1)),
+    λ h. rw (length-is, le-ltb 8 (length (crossings σ last)) (h .0), void-at (h .1 .0) (h .1 .1 .0) (h .1 .1 .1)),
+  )
+
+  pub timed-exactly : (sweepOf σ last .walk ≡ AllTimed) ↔ ((length (crossings σ last) ≤ 8) × ((i : ℕ) → i ≤ last → isUnknown (σ (stationOf i)) ≡ false))
+  unfolding sweepOf reported
+  timed-exactly = (
+    λ e. (
+      few (walk-timed ninth (someVoid σ last) e .0),
+      λ i h. false-by (isUnknown (σ (stationOf i))) (λ u. clash (void-at i h u) (walk-timed ninth (someVoid σ last) e .1)),
+    ),
+    λ h. rw (length-is, le-ltb 8 (length (crossings σ last)) (h .0), false-by (someVoid σ last) (λ e. clash (at-void e .1 .1) (h .1 (at-void e .0) (at-void e .1 .0)))),
+  )
+
+  -- no place is used exactly when no pair crosses
+  empty-by : (xs : List ℕ) → ((i : ℕ) → Listed i xs → ⊥) → length xs ≡ 0
+  unfolding Listed
+  empty-by [] f = refl
+  empty-by (x ∷ xs) f = absurd (f x (inl refl))
+
+  not-listed : (i : ℕ) (xs : List ℕ) → length xs ≡ 0 → Listed i xs → ⊥
+  unfolding Listed
+  not-listed i [] e h = h
+  not-listed i (x ∷ xs) e h = omega (arith, e)
+
+  pub none-exactly : (sweepOf σ last .count ≡ 0) ↔ ((i : ℕ) → i < last → crosses σ i ≡ false)
+  none-exactly = (
+    λ e i h.
+        let z : length (crossings σ last) ≡ 0 = omega (arith, counted, e) in
+        false-by (crosses σ i) (λ y. not-listed i (crossings σ last) z (listed-exactly i .1 (h, y))),
+    λ f.
+        let z : length (crossings σ last) ≡ 0 = empty-by (crossings σ last) (λ i h. clash (listed-exactly i .0 h .1) (f i (listed-exactly i .0 h .0))) in
+        omega (arith, counted, z),
+  )

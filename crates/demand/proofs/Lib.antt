@@ -1,0 +1,5 @@
+pub mod RowFacts
+pub mod Answered
+pub mod Demand
+pub mod NeverBoth
+pub mod Whole

@@ -1,0 +1,54 @@
+-- `solve` meets its contract: the entrance's number, or what comes of the problem.
+use borrow.Author.Needs.{needs}
+use mathlib.Core.Path.{_≡_, sym, ap, _∙_}
+use mathlib.Core.List.{List}
+use Rattle.entrance.specs.Judge.{judgeOf}
+use Rattle.entrance.specs.declared.Judged.{Judged}
+use Rattle.solution.specs.Solve.{Solved, after, solveOf}
+use Rattle.solution.proofs.solve.Statement.{statement}
+use Rattle.solution.proofs.solve.Tie as tie
+
+judge-requires : tie.Need-judge-requires
+judge-requires c κs = search needs
+
+enum-known-number : tie.Need-enum-known-number
+enum-known-number c = search needs
+
+enum-known-problem : tie.Need-enum-known-problem
+enum-known-problem c = search needs
+
+settle-requires : tie.Need-settle-requires
+settle-requires c κs = tt
+
+returns : tie.Need-returns
+unfolding solveOf
+returns c =
+    let d = c .before .before .before in
+    let a = d .before .before .before .args in
+    let e = ap (λ (j : Judged). after j (a .answer .now)) (sym (d .judge .ensures) ∙ c .before .number .given .1) in
+    (sym (ap (λ (s : Solved). s .outcome) e), sym (ap (λ (s : Solved). s .buffer) e))
+
+same-length : tie.Need-same-length
+same-length c = search needs
+
+returns-2 : tie.Need-returns-2
+unfolding solveOf
+returns-2 c =
+    let d = c .before .before .before .before .before .before .before in
+    let a = d .before .before .before .args in
+    let e = ap (λ (j : Judged). after j (a .answer .now)) (sym (d .judge .ensures) ∙ c .before .before .before .before .before .problem .given .1) in (
+      c .before .before .settle .ensures .0 ∙ sym (ap (λ (s : Solved). s .outcome) e),
+      c .before .before .settle .ensures .1 ∙ sym (ap (λ (s : Solved). s .buffer) e),
+    )
+
+pub solve-spec : {M : Type 1} → statement M
+solve-spec =
+    tie.close
+    (tie.spec
+    judge-requires
+    enum-known-number
+    enum-known-problem
+    settle-requires
+    returns
+    same-length
+    returns-2)

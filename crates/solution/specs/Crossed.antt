@@ -1,0 +1,27 @@
+-- A problem's crossings, and the entries of its answer (01, Stations, sides, crossings). Definitions only.
+use Prim.Native.Nat.{ℕ}
+use mathlib.Core.List.{List, map}
+use lib.IntN.{ℤ}
+use Rattle.records.specs.declared.Entry.{Entry}
+use Rattle.entrance.specs.declared.Problem.{Problem}
+use Rattle.stations.specs.Sides.{sideAt}
+use Rattle.stations.specs.Stations.{lastOf}
+use Rattle.sweep.specs.Crossings.{brackets}
+use Rattle.bisection.specs.declared.Bracket.{Bracket}
+use Rattle.stations.specs.declared.side.Side.{Side}
+use Rattle.entries.specs.Entries.{entryFor}
+
+-- which side of the wanted time each place of a problem is on
+unfoldable pub sidesOf : Problem → ℤ → Side
+sidesOf p = sideAt (p .triangle) (p .revolutions) (p .wanted)
+
+-- the index of the last station, and the brackets of all crossings in rising x
+abbrev pub lastStation : Problem → ℕ
+lastStation p = lastOf (p .revolutions)
+
+unfoldable pub bracketsOf : Problem → List Bracket
+bracketsOf p = brackets (sidesOf p) (lastStation p)
+
+-- the entries of all crossings in rising x
+unfoldable pub entriesOf : Problem → List Entry
+entriesOf p = map (entryFor p) (bracketsOf p)

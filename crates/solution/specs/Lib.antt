@@ -1,0 +1,4 @@
+pub mod Crossed
+pub mod Table
+pub mod Internals
+pub mod Solve

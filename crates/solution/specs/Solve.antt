@@ -1,0 +1,79 @@
+-- From a question's bytes and an answer buffer to the outcome and the buffer's final bytes; and the record of a question (01). Definitions only.
+use Prim.Native.Nat.{ℕ}
+use mathlib.Core.Bool.{Bool, cond}
+use mathlib.Core.List.{List}
+use lib.Dec.{eqb, ltb}
+use lib.ListN.{length}
+use Rattle.little_endian.specs.Bytes.{written}
+use Rattle.records.specs.Records.{questionOf, headBytes, refusalOf, answerBytes}
+use Rattle.records.specs.declared.Question.{Question}
+use Rattle.records.specs.declared.Head.{Head}
+use Rattle.entrance.specs.Judge.{firstOf, judgeOf}
+use Rattle.entrance.specs.declared.Problem.{Problem}
+use Rattle.entrance.specs.declared.Judged.{Judged}
+use Rattle.entrance.specs.declared.Judged.the-variants.{Refused, Accepted}
+use Rattle.solution.specs.declared.Outcome.{Outcome}
+use Rattle.solution.specs.declared.Outcome.the-variants.{Refused, Answered}
+use Rattle.solution.specs.Crossed.{entriesOf}
+use Rattle.solution.specs.Table.{lateChecks}
+
+-- what a call returns, and what the answer buffer then holds
+pub record Solved : Type 0 where
+  pub outcome : Outcome
+  pub buffer : List ℕ
+
+-- a refusal leaves the buffer untouched
+abbrev pub refused : ℕ → List ℕ → Solved
+refused number buffer = record { outcome = Refused number; buffer = buffer }
+
+-- an answer stands at the buffer's start, and the bytes past it keep their contents
+abbrev pub answered : Problem → List ℕ → Solved
+answered p buffer = record {
+  outcome = Answered (length (entriesOf p));
+  buffer = written buffer (answerBytes (p .job) (p .revision) (entriesOf p));
+}
+
+-- a problem that is past the entrance checks: the first row of 11 to 14 that applies, or its answer
+unfoldable pub settledOf : Problem → List ℕ → Solved
+settledOf p buffer = let n = firstOf (lateChecks p) in cond (eqb n 0) (answered p buffer) (refused n buffer)
+
+abbrev pub after : Judged → List ℕ → Solved
+after (Refused number) buffer = refused number buffer
+after (Accepted p) buffer = settledOf p buffer
+
+unfoldable pub solveOf : List ℕ → List ℕ → Solved
+solveOf question buffer = after (judgeOf question (length buffer)) buffer
+
+-- ---- the record of a question, given room for the longest: 16 + 64 * 8 bytes
+abbrev pub longest : ℕ
+longest = 528
+
+-- a refusal's record has the question's job and revision, both 0 where the number is 1
+unfoldable pub refusalFor : List ℕ → ℕ → Head
+refusalFor question n = let q = questionOf question in cond (eqb n 1) (refusalOf 0 0 n) (refusalOf (q .job) (q .revision) n)
+
+abbrev pub refusalBytes : List ℕ → ℕ → List ℕ
+refusalBytes question n = headBytes (refusalFor question n)
+
+abbrev pub recordAfter : List ℕ → Judged → List ℕ
+recordAfter question (Refused n) = refusalBytes question n
+recordAfter question (Accepted p) =
+    let n = firstOf (lateChecks p) in cond (eqb n 0) (answerBytes (p .job) (p .revision) (entriesOf p)) (refusalBytes question n)
+
+unfoldable pub recordOf : List ℕ → List ℕ
+recordOf question = recordAfter question (judgeOf question longest)
+
+-- the record laid over a buffer's start, and its length; without room for the longest nothing is written
+pub record Response : Type 0 where
+  pub size : ℕ
+  pub buffer : List ℕ
+
+unfoldable pub responseOf : List ℕ → List ℕ → Response
+responseOf question buffer =
+    cond (ltb (length buffer) longest) (record { size = 0; buffer = buffer })
+    (record { size = length (recordOf question); buffer = written buffer (recordOf question) })
+
+-- ---- the outcome as one number: that of the refusal, and 0 for an answer
+abbrev pub numberGiven : Outcome → ℕ
+numberGiven (Refused n) = n
+numberGiven (Answered n) = 0

@@ -1,0 +1,67 @@
+-- How large a station's place can be, so that an i64 holds it with room: bounds on `mag` of sums and products.
+use mathlib.Core.Path.{_≡_, sym, ap, _∙_}
+use mathlib.Core.Bool.{Bool, true, false, cond, not}
+use Prim.Native.Nat.{ℕ, zero, suc, _+_, _*_, _-_, _^_, _≤_, _<_, zero-le}
+use native.Mathlib.Omega.{arith}
+use native.Mathlib.Nat.{le-refl, le-suc}
+use native.Mathlib.Numerals.{add-one}
+use lib.Dec.{T, eqb, ltb, ltb→lt}
+use lib.IntN.{ℤ, pos, negsuc, _+ℤ_, _*ℤ_, negℤ, subℕ, sucℤ-+ℤ, sucℤ-*ℤ}
+use lib.Signed.{mag}
+use mir.Syntax.{w64}
+use mir.Val.{SFits, toZ, ofZ}
+use mir.Facts.{toZ-ofZ}
+use Rattle.stations.specs.Stations.{stationOf, lastOf}
+
+mag-cond : (c : Bool) (x y : ℤ) (n : ℕ) → (T c → mag x ≤ n) → (T (not c) → mag y ≤ n) → mag (cond c x y) ≤ n
+mag-cond true x y n f g = f tt
+mag-cond false x y n f g = g tt
+
+mag-sub : (a b n : ℕ) → a ≤ n → b ≤ suc n → mag (subℕ a b) ≤ n
+mag-sub a b n ha hb =
+    mag-cond (ltb a b) (negsuc (b - suc a)) (pos (a - b)) n (λ t. omega (arith, ltb→lt a b t)) (λ t. omega arith)
+
+mag-neg : (r : ℕ) → mag (negℤ (pos r)) ≤ r
+mag-neg zero = zero-le
+mag-neg (suc r) = le-suc r
+
+pub mag-add : (z : ℤ) (n : ℕ) → mag (z +ℤ pos n) ≤ mag z + n
+mag-add (pos a) n = le-refl (a + n)
+mag-add (negsuc a) n = mag-sub n (suc a) (a + n) (omega arith) (omega arith)
+
+pub mag-from : (n : ℕ) (z : ℤ) → mag (pos n +ℤ z) ≤ n + mag z
+mag-from n (pos a) = le-refl (n + a)
+mag-from n (negsuc a) = mag-sub n (suc a) (n + a) (omega arith) (omega arith)
+
+pub mag-times : (z : ℤ) (n : ℕ) → mag (z *ℤ pos n) ≤ (mag z + 1) * n
+mag-times (pos a) n = omega arith
+mag-times (negsuc a) n = omega (arith, mag-neg (suc a * n))
+
+pub station-room : (i : ℕ) → i < 65536 → mag (stationOf i) + 1048576 ≤ 2 ^ 40
+unfolding stationOf
+station-room i h = omega (arith, mag-times (pos i +ℤ negsuc 4094) 1048576, mag-from i (negsuc 4094))
+
+-- what the machine reads back of a station's place
+pub station-read : {i : ℕ} {z : ℤ} → z ≡ stationOf i → i < 65536 → toZ w64 (ofZ w64 z) ≡ stationOf i
+station-read {i} {z} e h = ap (λ (k : ℤ). toZ w64 (ofZ w64 k)) e ∙ toZ-ofZ {w = w64} {z = stationOf i} (record { sfits = omega (arith, station-room i h) })
+
+pub next-station : (i : ℕ) → stationOf (i + 1) ≡ stationOf i +ℤ pos (2 ^ 20)
+unfolding stationOf
+next-station i =
+    rw add-one
+    (ap (λ (z : ℤ). z *ℤ pos 1048576) (sucℤ-+ℤ (pos i) (negsuc 4094)) ∙ sucℤ-*ℤ (pos i +ℤ negsuc 4094) (pos 1048576))
+
+-- the upper station of a pair, as the code works it out
+pub upper-fits : {i : ℕ} {z : ℤ} → z ≡ stationOf i → i < 65536 → SFits w64 (toZ w64 (ofZ w64 z) +ℤ pos 1048576)
+upper-fits {i} e h = rw (station-read e h) (record { sfits = omega (arith, mag-add (stationOf i) 1048576, station-room i h) })
+
+pub upper-read : {i : ℕ} {z : ℤ} → z ≡ stationOf i → i < 65536 → toZ w64 (ofZ w64 (toZ w64 (ofZ w64 z) +ℤ pos 1048576)) ≡ stationOf (i + 1)
+upper-read {i} e h = toZ-ofZ (upper-fits e h) ∙ ap (λ (k : ℤ). k +ℤ pos 1048576) (station-read e h) ∙ sym (next-station i)
+
+cond-most : (b : Bool) → cond b 16384 4095 + 4095 ≤ 20479
+cond-most true = omega arith
+cond-most false = omega arith
+
+pub last-most : (m : ℕ) → lastOf m ≤ 20479
+unfolding lastOf
+last-most m = cond-most (eqb m 0)

@@ -1,0 +1,26 @@
+-- `side_of` meets its contract: by the case of the place and the comparison of the times.
+use borrow.Author.Needs.{needs}
+use Rattle.stations.specs.Sides.{sideOf}
+use Rattle.stations.proofs.side.side_of.Statement.{statement}
+use Rattle.stations.proofs.side.side_of.Tie as tie
+
+enum-known-place : tie.Need-enum-known-place
+enum-known-place c = search needs
+
+enum-told : tie.Need-enum-told
+enum-told c = search needs
+
+returns : tie.Need-returns
+unfolding sideOf
+returns c = simp (c .before .before .place .given .1, c .if1 .taken)
+
+returns-2 : tie.Need-returns-2
+unfolding sideOf
+returns-2 c = simp (c .before .before .place .given .1, c .if1 .left)
+
+returns-3 : tie.Need-returns-3
+unfolding sideOf
+returns-3 c = search needs
+
+pub side-of-spec : {M : Type 1} → statement M
+side-of-spec = tie.close (tie.spec enum-known-place enum-told returns returns-2 returns-3)

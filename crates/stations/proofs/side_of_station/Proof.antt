@@ -1,0 +1,21 @@
+-- `side_of_station` meets its contract: it is the side at the place that `station` returns.
+use mathlib.Core.Path.{ap, _∙_}
+use native.Mathlib.Omega.{arith}
+use Rattle.stations.specs.Sides.{sideAt}
+use Rattle.stations.proofs.Places.{station-read}
+use Rattle.stations.proofs.side_of_station.Statement.{statement}
+use Rattle.stations.proofs.side_of_station.Tie as tie
+
+station-requires : tie.Need-station-requires
+station-requires c κs = tt
+
+side-at-requires : tie.Need-side-at-requires
+side-at-requires c κs = tt
+
+returns : tie.Need-returns
+returns c =
+    let a = c .before .before .args in
+    c .side-at .ensures ∙ ap (sideAt (a .triangle) (a .m) (a .wanted)) (station-read (c .before .station .ensures) (omega arith))
+
+pub side-of-station-spec : {M : Type 1} → statement M
+side-of-station-spec = tie.close (tie.spec station-requires side-at-requires returns)

@@ -1,0 +1,63 @@
+// The side of the wanted time that a place is on.
+ghost use mathlib.Core.Path.{_≡_};
+ghost use Rattle.stations.specs.Sides.{sideOf, sideAt, opposite, isUnknown};
+use flight_time::Place;
+use geometry::Triangle;
+
+// A place with a time is below the wanted time or not below it. A void place is on no side, and
+// `Unknown` says that.
+pub enum Side {
+    Below,
+    NotBelow,
+    Unknown,
+}
+
+pub fn side_at(triangle: Triangle, m: u16, wanted: f64, k: i64) -> Side
+    ensures { λ r. ⌜ r ≡ sideAt triangle m wanted k ⌝ }
+{
+    side_of(flight_time::time_at(triangle, k, m), wanted)
+}
+
+fn side_of(place: Place, wanted: f64) -> Side
+    ensures { λ r. ⌜ r ≡ sideOf place wanted ⌝ }
+{
+    match place {
+        Place::Timed(time) => {
+            if time < wanted {
+                Side::Below
+            } else {
+                Side::NotBelow
+            }
+        }
+        Place::Void => Side::Unknown,
+    }
+}
+
+// Whether both sides are known and differ.
+pub fn are_opposite(a: Side, b: Side) -> bool
+    ensures { λ r. ⌜ r ≡ opposite a b ⌝ }
+{
+    match a {
+        Side::Below => match b {
+            Side::Below => false,
+            Side::NotBelow => true,
+            Side::Unknown => false,
+        },
+        Side::NotBelow => match b {
+            Side::Below => true,
+            Side::NotBelow => false,
+            Side::Unknown => false,
+        },
+        Side::Unknown => false,
+    }
+}
+
+pub fn is_unknown(side: Side) -> bool
+    ensures { λ r. ⌜ r ≡ isUnknown side ⌝ }
+{
+    match side {
+        Side::Below => false,
+        Side::NotBelow => false,
+        Side::Unknown => true,
+    }
+}

@@ -1,0 +1,12 @@
+-- `vectors::norm_squared` meets its contract: the definition's sum.
+use mathlib.Core.Path.{refl}
+use Rattle.vectors.specs.Vectors.{normSquared}
+use Rattle.vectors.proofs.norm_squared.Statement.{statement}
+use Rattle.vectors.proofs.norm_squared.Tie as tie
+
+returns : tie.Need-returns
+unfolding normSquared
+returns c = refl
+
+pub norm-squared-spec : {M : Type 1} → statement M
+norm-squared-spec = tie.close (tie.spec returns)

@@ -1,0 +1,12 @@
+-- `vectors::opposite` meets its contract: the definition's components.
+use mathlib.Core.Path.{refl}
+use Rattle.vectors.specs.Vectors.{opposite}
+use Rattle.vectors.proofs.opposite.Statement.{statement}
+use Rattle.vectors.proofs.opposite.Tie as tie
+
+returns : tie.Need-returns
+unfolding opposite
+returns c = refl
+
+pub opposite-spec : {M : Type 1} → statement M
+opposite-spec = tie.close (tie.spec returns)
