@@ -1,0 +1,40 @@
+-- What holds of the step that every call gives, whatever the state: no more bytes are taken than the piece has (`taken-within`), and a finished question has room (`question-fits`).
+use mathlib.Core.Path.{_≡_, refl}
+use mathlib.Core.List.{List, _++_}
+use Prim.Native.Nat.{ℕ, _+_, _-_, _≤_}
+use native.Mathlib.Nat.{min-le-left}
+use native.Mathlib.Omega.{arith}
+use lib.ListN.{length, take, drop, length-append, length-take}
+use Rattle.records.specs.Layout.{questionRoom}
+use Rattle.link_reader.specs.declared.Reader.{Reader}
+use Rattle.link_reader.specs.declared.Step.{Step}
+use Rattle.link_reader.specs.declared.Came.{Came}
+use Rattle.link_reader.specs.declared.Came.the-variants.{Question, Nothing, BadLength, NeedsReset}
+use Rattle.link_reader.specs.Reading.{keptOf, sizeGiven, cameOf, stepBy, readOf}
+use Rattle.link_reader.proofs.Verdicts.{came-verdict, whole-fits}
+
+pub taken-within : (r : Reader) (piece : List ℕ) (s : Step) → s ≡ readOf r piece → s .taken ≤ length piece
+unfolding readOf stepBy
+taken-within r piece s is = rw is (by (cameOf r piece) refl)
+  where
+    by : (came : Came) → cameOf r piece ≡ came → stepBy came r piece .taken ≤ length piece
+    by (Question size) e = omega (arith, whole-fits (came-verdict r piece e refl) .0, length-append (keptOf r) piece)
+    by Nothing e = omega arith
+    by BadLength e = omega arith
+    by NeedsReset e = omega arith
+
+pub question-fits : (r : Reader) (piece : List ℕ) (s : Step) → s ≡ readOf r piece → sizeGiven (s .came) ≤ questionRoom
+unfolding readOf stepBy
+question-fits r piece s is = rw is (by (cameOf r piece) refl)
+  where
+    by : (came : Came) → cameOf r piece ≡ came → sizeGiven (stepBy came r piece .came) ≤ questionRoom
+    by (Question size) e = whole-fits (came-verdict r piece e refl) .1
+    by Nothing e = omega arith
+    by BadLength e = omega arith
+    by NeedsReset e = omega arith
+
+-- what is taken of the rest of a piece stays within the piece
+pub rest-within : (r : Reader) (piece : List ℕ) (at : ℕ) (s : Step) → at ≤ length piece → s ≡ readOf r (take (length piece - at) (drop at piece)) → at + s .taken ≤ length piece
+rest-within r piece at s h is =
+    let rest = take (length piece - at) (drop at piece) in
+    omega (arith, taken-within r rest s is, length-take (length piece - at) (drop at piece), min-le-left (length piece - at) (length (drop at piece)))

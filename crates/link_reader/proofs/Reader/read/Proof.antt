@@ -1,0 +1,86 @@
+-- `Reader::read` meets its contract: what came decides which step it is.
+use mathlib.Core.Path.{_≡_, refl, sym, ap, _∙_}
+use mathlib.Core.List.{List, _++_}
+use Prim.Native.Nat.{ℕ}
+use native.Mathlib.Omega.{arith}
+use borrow.Author.Needs.{needs}
+use lib.ListN.{length, length-append}
+use Rattle.link_reader.specs.declared.Reader.{Reader}
+use Rattle.link_reader.specs.declared.Came.{Came}
+use Rattle.link_reader.specs.declared.Came.the-variants.{Question}
+use Rattle.link_reader.specs.declared.Step.{Step}
+use Rattle.link_reader.specs.Reading.{keptOf, cameOf, stepBy, readOf}
+use Rattle.link_reader.proofs.Verdicts.{came-verdict, part-fits, whole-fits}
+use Rattle.link_reader.proofs.Reader.read.Statement.{statement}
+use Rattle.link_reader.proofs.Reader.read.Tie as tie
+
+-- the step by what came is the step
+read-by : (r : Reader) (piece : List ℕ) {came told : Came} → told ≡ cameOf r piece → told ≡ came → stepBy came r piece ≡ readOf r piece
+unfolding readOf
+read-by r piece e f = ap (λ (k : Came). stepBy k r piece) (sym f ∙ e)
+
+came-of-requires : tie.Need-came-of-requires
+came-of-requires c κs = search needs
+
+enum-known-size : tie.Need-enum-known-size
+enum-known-size c = search needs
+
+finished-requires : tie.Need-finished-requires
+finished-requires c κs =
+    let a = c .before .before .before .before .before .args in
+    let told = sym (c .before .before .before .came-of .ensures) ∙ c .before .size .given .1 in
+    let fits = whole-fits (came-verdict (a .self) (a .piece .now) told refl) in
+    (fits .1, omega (arith, fits .0, length-append (keptOf (a .self)) (a .piece .now)))
+
+enum-told : tie.Need-enum-told
+enum-told c = search needs
+
+kept-requires : tie.Need-kept-requires
+kept-requires c κs =
+    let a = c .before .before .before .before .args in
+    let told = sym (c .before .before .came-of .ensures) ∙ c .enum-told .given .1 in
+    omega (arith, part-fits (came-verdict (a .self) (a .piece .now) told refl), length-append (keptOf (a .self)) (a .piece .now))
+
+enum-told-2 : tie.Need-enum-told-2
+enum-told-2 c = search needs
+
+enum-told-3 : tie.Need-enum-told-3
+enum-told-3 c = search needs
+
+returns : tie.Need-returns
+returns c =
+    let a = c .before .before .before .before .before .before .args in
+    c .finished .ensures ∙ read-by (a .self) (a .piece .now) (c .before .before .before .before .came-of .ensures) (c .before .before .size .given .1)
+
+returns-2 : tie.Need-returns-2
+returns-2 c =
+    let a = c .before .before .before .before .before .args in
+    c .kept .ensures ∙ read-by (a .self) (a .piece .now) (c .before .before .before .came-of .ensures) (c .before .enum-told .given .1)
+
+returns-3 : tie.Need-returns-3
+unfolding stepBy
+returns-3 c =
+    let a = c .before .before .before .before .args in
+    read-by (a .self) (a .piece .now) (c .before .before .came-of .ensures) (c .enum-told2 .given .1)
+
+returns-4 : tie.Need-returns-4
+unfolding stepBy
+returns-4 c =
+    let a = c .before .before .before .before .args in
+    read-by (a .self) (a .piece .now) (c .before .before .came-of .ensures) (c .enum-told3 .given .1)
+
+pub read-spec : {M : Type 1} → statement M
+read-spec =
+    tie.close
+    (tie.spec
+    came-of-requires
+    enum-known-size
+    finished-requires
+    enum-told
+    kept-requires
+    enum-told-2
+    enum-told-3
+    returns
+    returns-2
+    returns-3
+    returns-4)
