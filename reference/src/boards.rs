@@ -9,7 +9,7 @@ mod steps;
 mod stream;
 
 use crate::board::SLOT;
-use crate::random::Random;
+use crate::random::{pick, Random};
 use meetings::{crowd, few, orders};
 use messages::{answer, message, refusal};
 use steps::{List, Step, LONGEST};
@@ -93,11 +93,6 @@ fn fresh(r: &mut Random) -> Vec<List> {
         2 | 3 => vec![damage::list(20, r)],
         _ => posted(&few(faults, r), r),
     }
-}
-
-/// One of some things.
-fn pick<T: Clone>(all: &[T], r: &mut Random) -> T {
-    all[r.below(all.len() as u64) as usize].clone()
 }
 
 #[cfg(test)]

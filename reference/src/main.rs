@@ -1,7 +1,8 @@
 //! The commands of the independent second program. Each writes to standard output.
 
 use reference::{
-    boards, compare, entrance, flights, landing, places, precision, questions, record, root, solver, sweeps,
+    boards, compare, entrance, flights, landing, links, places, precision, questions, record, root, solver,
+    sweeps,
 };
 use std::io::{BufWriter, Read, Write};
 use std::process::ExitCode;
@@ -12,7 +13,9 @@ const USAGE: &str =
        solve | solver questions | solver answers | solver random N SEED |
        solver missions N SEED | solver tally ANSWERS |
        solver differ QUESTIONS ANSWERS ANSWERS | solver landing QUESTIONS ANSWERS |
-       board frames | board lines | board random N SEED | board told | board records | board board
+       board frames | board lines | board random N SEED | board told | board records | board board |
+       link frames | link lines | link random N SEED | link told | link pieces | link records |
+       link random_pieces N SEED | link answer
   root                 a line for each operand: its bits and the bits of its root, as hexadecimal digits
   entrance questions   a frame for each case: size and room, u16 little-endian, then the question's
                        bytes with zeros up to 120
@@ -42,7 +45,18 @@ const USAGE: &str =
   board random         the frames of N fresh lists, each in several orders
   board told           the lines of the frames on standard input
   board records        one stream of records, each by its length
-  board board          the board's bytes after that stream";
+  board board          the board's bytes after that stream
+  link frames          streams cut into pieces for the reader of a link; commands u16, little-endian: up to 4096
+                       the size of a piece that follows; FFFF the end of a stream, and the reader's reset
+  link lines           a line for each stream as it is cut: for each call Q a question, N nothing, R number 1 or
+                       B the need of a reset, the number of bytes it took and a question's bytes; then K, the
+                       number of bytes kept and these, and ! if a reset is needed
+  link random          the frames of N fresh streams, each cut in several ways
+  link told            the lines of the frames on standard input
+  link pieces          one stream in pieces, each a size u16, little-endian, and so many bytes
+  link records         an answer or a refusal for each question of these pieces
+  link random_pieces   N fresh questions in pieces, with an ending by the seed
+  link answer          an answer or a refusal for each question of the pieces on standard input";
 
 fn main() -> ExitCode {
     let words: Vec<String> = std::env::args().skip(1).collect();
@@ -69,9 +83,17 @@ fn main() -> ExitCode {
         ["board", "frames"] => out.write_all(&boards::frames()),
         ["board", "lines"] => out.write_all(boards::lines().as_bytes()),
         ["board", "random", n, seed] => write_fresh(&mut out, boards::random, n, seed),
-        ["board", "told"] => write_told(&mut out),
+        ["board", "told"] => write_told(&mut out, boards::told),
         ["board", "records"] => out.write_all(&boards::records()),
         ["board", "board"] => out.write_all(&boards::board()),
+        ["link", "frames"] => out.write_all(&links::frames()),
+        ["link", "lines"] => out.write_all(links::lines().as_bytes()),
+        ["link", "random", n, seed] => write_fresh(&mut out, links::random, n, seed),
+        ["link", "told"] => write_told(&mut out, links::told),
+        ["link", "pieces"] => out.write_all(&links::pieces()),
+        ["link", "records"] => out.write_all(&links::records()),
+        ["link", "random_pieces", n, seed] => write_fresh(&mut out, links::random_pieces, n, seed),
+        ["link", "answer"] => input().and_then(|pieces| out.write_all(&links::answer(&pieces))),
         _ => {
             eprintln!("{USAGE}");
             return ExitCode::from(2);
@@ -135,9 +157,9 @@ fn write_replies(out: &mut impl Write) -> std::io::Result<()> {
     Ok(())
 }
 
-fn write_told(out: &mut impl Write) -> std::io::Result<()> {
-    let told = boards::told(&input()?).ok_or(std::io::Error::other("the frames are cut or unknown"))?;
-    out.write_all(told.as_bytes())
+fn write_told(out: &mut impl Write, told: fn(&[u8]) -> Option<String>) -> std::io::Result<()> {
+    let lines = told(&input()?).ok_or(std::io::Error::other("the frames are cut or unknown"))?;
+    out.write_all(lines.as_bytes())
 }
 
 /// All of standard input.

@@ -34,3 +34,8 @@ impl Random {
         self.bits(53) as f64 / (1u64 << 53) as f64
     }
 }
+
+/// One of some things.
+pub fn pick<T: Clone>(all: &[T], r: &mut Random) -> T {
+    all[r.below(all.len() as u64) as usize].clone()
+}

@@ -29,7 +29,8 @@ pub fn answers() -> Vec<u8> {
     replies(&questions()).flatten().collect()
 }
 
-fn slots() -> Vec<Slot> {
+/// The slots of the list but the short one.
+pub(crate) fn slots() -> Vec<Slot> {
     let mut r = Random::new(12);
     let mut sound = every_revolution(&mut r);
     sound.extend(meetings::questions(&mut r));

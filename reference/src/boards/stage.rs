@@ -2,6 +2,7 @@
 
 use super::steps::Step;
 use crate::board::{post, SIZE, SLOT};
+use crate::hash::hash;
 
 pub const ROOM: usize = SIZE + SLOT;
 
@@ -39,10 +40,4 @@ impl Stage {
             }
         }
     }
-}
-
-/// FNV-1a of 64 bits.
-pub fn hash(bytes: &[u8]) -> u64 {
-    let next = |hash: u64, &b: &u8| (hash ^ u64::from(b)).wrapping_mul(0x100_0000_01B3);
-    bytes.iter().fold(0xCBF2_9CE4_8422_2325, next)
 }

@@ -2,9 +2,10 @@
 
 use super::*;
 use crate::board::{Board, Held, BAD_BOARD, JOB_ZERO, MALFORMED, SIZE};
+use crate::hash::hash;
 use crate::message::Message;
 use crate::record::split;
-use stage::{hash, Stage, ROOM};
+use stage::{Stage, ROOM};
 use std::collections::BTreeMap;
 
 /// How often each character stands before the hashes.
@@ -53,14 +54,6 @@ fn what_is_no_step() {
     assert_eq!(Step::Set(0x0102, 9).frame(), [0xFE, 0xFF, 2, 1, 0, 0, 9]);
     assert_eq!(Step::Lend(0x0102).frame(), [0xFD, 0xFF, 2, 1, 0, 0]);
     assert_eq!(Step::End.frame(), [0xFF, 0xFF]);
-}
-
-/// Known values of the hash.
-#[test]
-fn hashes() {
-    assert_eq!(hash(b""), 0xCBF2_9CE4_8422_2325);
-    assert_eq!(hash(b"a"), 0xAF63_DC4C_8601_EC8C);
-    assert_eq!(hash(b"foobar"), 0x8594_4171_F739_67E8);
 }
 
 /// The hash of each order's board.

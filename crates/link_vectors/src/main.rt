@@ -1,0 +1,150 @@
+// Feeds a reader with the pieces of the independent program and writes what came of each call. Commands are read from standard
+// input, each a u16: up to 4,096 a piece of so many bytes; FFFF the end of a stream: the state is written, and the reader is
+// reset. Of each call a letter and the bytes taken are written: Q a question, with its bytes, N nothing yet, R a refused length,
+// B that a reset is needed; of the state K, how many bytes are kept, these, and ! where a reset is needed.
+ghost use mathlib.Core.Path.{_≡_};
+ghost use Prim.Native.Nat.{_≤_};
+ghost use lib.ListN.{length};
+ghost use Rattle.records.specs.Layout.{questionRoom};
+ghost use Rattle.link_reader.specs.Reading.{sizeGiven};
+use libc::STDIN_FILENO;
+use libc::STDOUT_FILENO;
+use link_reader::Came;
+use link_reader::Reader;
+use link_reader::Step;
+use little_endian::u16_at;
+use little_endian::word_at;
+use records::QUESTION_ROOM;
+
+// The longest piece.
+const LONGEST: usize = 4096;
+
+// The reader after a command, and whether another may follow.
+struct Ran {
+    reader: Reader,
+    more: bool,
+}
+
+fn main() {
+    let mut bytes = [0u8; LONGEST];
+    let new = Reader::new();
+    let mut ran = Ran {
+        reader: new,
+        more: true,
+    };
+    let mut turns = u64::MAX;
+    while turns > 0 && ran.more {
+        let reader = ran.reader;
+        ran = run_command(reader, &mut bytes);
+        turns -= 1;
+    }
+}
+
+fn run_command(reader: Reader, bytes: &mut [u8]) -> Ran {
+    let mut command = [0u8; 2];
+    if io::read_full(STDIN_FILENO, &mut command) < 2 {
+        return Ran {
+            reader,
+            more: false,
+        };
+    }
+    let n = u16_at(&command, 0);
+    if n == 0xFFFF {
+        print_state(reader);
+        let again = reader.reset();
+        return Ran {
+            reader: again,
+            more: true,
+        };
+    }
+    let fed = read_and_feed(reader, bytes, n as usize);
+    Ran {
+        reader: fed,
+        more: true,
+    }
+}
+
+fn read_and_feed(reader: Reader, bytes: &mut [u8], n: usize) -> Reader {
+    let size = at_most(n, bytes.len());
+    io::read_full(STDIN_FILENO, &mut bytes[..size]);
+    feed(reader, &bytes[..size])
+}
+
+fn at_most(n: usize, limit: usize) -> usize
+    ensures { λ r. ⌜ r ≤ limit ⌝ }
+{
+    if n < limit { n } else { limit }
+}
+
+// Hands in a piece, and again what was not taken of it, until nothing is left or a reset is needed.
+fn feed(reader: Reader, piece: &[u8]) -> Reader {
+    let mut now = reader;
+    let mut at = 0;
+    let mut calls = piece.len() + 1;
+    while calls > 0 {
+        let step = now.read(&piece[at..]);
+        at += step.taken;
+        now = step.next;
+        if !print_step(step) || at == piece.len() {
+            return now;
+        }
+        calls -= 1;
+    }
+    now
+}
+
+// Writes what came of a call, and answers whether the rest is to be handed in.
+fn print_step(step: Step) -> bool
+    requires { ⌜ sizeGiven (step .came) ≤ questionRoom ⌝ }
+{
+    let question = step.question;
+    let taken = step.taken;
+    let came = step.came;
+    match came {
+        Came::Question(size) => {
+            print_taken(b"Q", taken);
+            io::write_all(STDOUT_FILENO, b"=");
+            print_first(&question, size);
+            true
+        }
+        Came::Nothing => print_taken(b"N", taken),
+        Came::BadLength => print_taken(b"R", taken),
+        Came::NeedsReset => {
+            print_taken(b"B", taken);
+            false
+        }
+    }
+}
+
+fn print_taken(letter: &[u8], taken: usize) -> bool {
+    io::write_all(STDOUT_FILENO, letter);
+    io::print_decimal(STDOUT_FILENO, taken as u64);
+    true
+}
+
+fn print_state(reader: Reader) {
+    let bytes = reader.bytes;
+    let count = at_most(reader.count, QUESTION_ROOM);
+    print_taken(b" K", reader.count);
+    io::write_all(STDOUT_FILENO, b"=");
+    print_first(&bytes, count);
+    if reader.refused {
+        io::write_all(STDOUT_FILENO, b"!");
+    }
+    io::write_all(STDOUT_FILENO, b"\n");
+}
+
+// The first n bytes as hexadecimal numbers of eight bytes each, with zeros after the last.
+fn print_first(s: &[u8], n: usize)
+    requires { ⌜ n ≤ length (now s) ⌝ }
+{
+    print_words(&s[..n]);
+}
+
+fn print_words(s: &[u8]) {
+    let mut at = 0;
+    while at < s.len() {
+        io::print_hex(STDOUT_FILENO, word_at(s, at), 16);
+        at += 8;
+    }
+}

@@ -1,0 +1,42 @@
+//! The program at the end of a link: it reads pieces and writes the record of each question.
+
+use crate::link::{Came, Link};
+use crate::record::Record;
+
+/// The records for an input of pieces. It ends at a refused length, and an unfinished question at the end is
+/// refused too.
+pub fn answer(input: &[u8]) -> Vec<u8> {
+    let mut link = Link::new();
+    let mut records = Vec::new();
+    for (_, came) in pieces(input).into_iter().flat_map(|piece| link.take_all(piece)) {
+        match came {
+            Came::Question(bytes) => records.extend(Record::reply(&bytes).write()),
+            Came::Nothing => {}
+            Came::Refused | Came::NeedsReset => return [records, number_1()].concat(),
+        }
+    }
+    match link.kept() {
+        [] => records,
+        _ => [records, number_1()].concat(),
+    }
+}
+
+/// The refusal of bytes that aren't a question.
+fn number_1() -> Vec<u8> {
+    Record { job: 0, revision: 0, outcome: Err(1) }.write()
+}
+
+/// The pieces of the input: a size u16, little-endian, and so many bytes. The last may be cut short; one byte
+/// of a size is no piece.
+fn pieces(mut input: &[u8]) -> Vec<&[u8]> {
+    let mut all = Vec::new();
+    while let Some((size, rest)) = input.split_first_chunk() {
+        let (piece, rest) = rest.split_at(rest.len().min(u16::from_le_bytes(*size).into()));
+        all.push(piece);
+        input = rest;
+    }
+    all
+}
+
+#[cfg(test)]
+mod tests;
