@@ -15,7 +15,7 @@ use Rattle.records.specs.declared.Head.{Head}
 use Rattle.records.specs.declared.Entry.{Entry}
 use Rattle.records.proofs.Sizes.{head-length, entry-length}
 use Rattle.records.proofs.Answers.{answer-length}
-use Rattle.outcomes.specs.Outcomes.{isSized, isRefusal, chosenAt, allNameAnEnd, isAnswer, isOutcome}
+use Rattle.outcomes.specs.Outcomes.{firstNumber, lastNumber, isSized, isRefusal, chosenAt, allNameAnEnd, isAnswer, isOutcome}
 
 -- ---- the fields of a head that are read, whatever follows it
 
@@ -40,7 +40,7 @@ sized s n e f = rw (eq-eqb (length s) n e, eq-eqb (valueOf LENGTH s + 4) n f)
 
 pub refusal-outcome : (job revision number : ℕ) → 1 ≤ number → number ≤ 14 → isOutcome (headBytes (refusalOf job revision number)) ≡ true
 unfolding isOutcome isRefusal isSized refusalOf headBytes encode headFields bytesOf numberAt
-refusal-outcome job revision number low high = rw (last-back (refusalOf job revision number) [] (omega arith), le-leb 1 number low, le-leb number 14 high)
+refusal-outcome job revision number low high = rw (last-back (refusalOf job revision number) [] (omega arith), le-leb firstNumber number (omega arith), le-leb number lastNumber (omega arith))
 
 -- ---- the entries of an answer
 

@@ -23,12 +23,15 @@ abbrev pub isBetween : ℕ → ℕ → ℕ → Bool
 isBetween low high n = leb low n && leb n high
 
 -- the numbers of refusal in force are those of 01's table
+abbrev pub firstNumber : ℕ
+firstNumber = 1
+
 abbrev pub lastNumber : ℕ
 lastNumber = 14
 
 -- a refusal, by whatever job and revision
 unfoldable pub isRefusal : List ℕ → Bool
-isRefusal s = eqb (valueOf KIND s) 3 && isSized s headSize && isBetween 1 lastNumber (valueOf LAST s)
+isRefusal s = eqb (valueOf KIND s) 3 && isSized s headSize && isBetween firstNumber lastNumber (valueOf LAST s)
 
 -- the chosen end that entry i of an answer names (it begins where an answer with i entries ends), and whether each of the first n names an end: 0 the lower, 1 the upper
 abbrev pub chosenAt : ℕ → List ℕ → ℕ

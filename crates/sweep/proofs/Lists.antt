@@ -67,14 +67,14 @@ eight-set bs b h =
 pub no-ninth : (bs : List Bracket) (void : Bool) → length bs ≤ 8 → record { list = eight bs; count = length bs; walk = walkOf false void } ≡ reported bs void
 unfolding reported
 no-ninth bs void h =
-    let m : min 8 (length bs) ≡ length bs = omega arith in
+    let m : (reported bs void) .count ≡ length bs = omega arith in
     rw (take-all 8 bs h, m, le-ltb 8 (length bs) h)
 
 pub a-ninth : (bs rest : List Bracket) (b : Bracket) (u void : Bool) → length bs ≡ 8 → record { list = eight bs; count = 8; walk = walkOf true u } ≡ reported (bs ++ (b ∷ rest)) void
 unfolding reported
 a-ninth bs rest b u void h =
     let n : 8 < length (bs ++ (b ∷ rest)) = simp length-append (omega arith) in
-    let m : min 8 (length (bs ++ (b ∷ rest))) ≡ 8 = omega arith in
+    let m : (reported (bs ++ (b ∷ rest)) void) .count ≡ 8 = omega arith in
     rw (take-at bs (b ∷ rest) 8 h, m, lt-ltb 8 (length (bs ++ (b ∷ rest))) n)
 
 -- ---- stations
