@@ -77,14 +77,21 @@ fn read_piece(reader: Reader, bytes: &mut [u8]) -> Fed
 fn read_size() -> Size {
     let mut head = [0u8; 2];
     match streams::fill(&mut head) {
-        Got::Bytes(n) => {
-            if n < 2 {
-                return Size::End;
-            }
-            Size::Bytes(u16_at(&head, 0))
-        }
+        Got::Bytes(n) => size_of(&head, n),
         Got::Failed => Size::Failed,
     }
+}
+
+// The size of a piece, by as many bytes of it as came.
+fn size_of(head: &[u8], n: usize) -> Size {
+    if n == 0 {
+        return Size::End;
+    }
+    if n < 2 {
+        say_cut();
+        return Size::End;
+    }
+    Size::Bytes(u16_at(head, 0))
 }
 
 // Reads the bytes of a piece and feeds them; those that came count where the input's end cuts it short.
@@ -100,14 +107,19 @@ fn read_bytes(reader: Reader, bytes: &mut [u8], size: usize) -> Fed
     }
 }
 
-// What follows a piece that the input's end cut short: the end, unless feeding has stopped.
+// Says that the input's end cut a piece short, and gives what follows: the end, unless feeding has stopped.
 fn cut_short(fed: Fed) -> Fed {
+    say_cut();
     let reader = fed.reader;
     Fed {
         reader,
         more: false,
         ended: fed.more,
     }
+}
+
+fn say_cut() {
+    io::write_all(STDERR_FILENO, b"link: the input ends within a piece\n");
 }
 
 fn cannot_read(reader: Reader) -> Fed {
