@@ -27,7 +27,7 @@ pub record Scaled (n a k : ℕ) : Type 0 where
   pub low : 2 ^ 52 ≤ a
   pub high : a + 2 ≤ 2 ^ 54
 
--- the digit that a comparison gives: 1 where t is at most y, and 0 otherwise
-pub data Digit (y t : ℕ) : ℕ → Type 0 where
-  none : y < t → Digit y t 0
-  one : t ≤ y → Digit y t 1
+-- what a comparison chooses: v where t is at most y, and u otherwise
+pub data Chosen (y t u v : ℕ) : ℕ → Type 0 where
+  below : y < t → Chosen y t u v u
+  above : t ≤ y → Chosen y t u v v
