@@ -3,7 +3,10 @@
 fn main() {
     let here = std::env::var("CARGO_MANIFEST_DIR").expect("cargo sets it");
     println!("cargo:rustc-link-search=native={here}/../target/staticlib");
-    for name in ["root_bits", "time_bits", "board"] {
+    let today = ["root_bits", "time_bits", "board"];
+    let before = ["before_root_bits", "before_time_bits"];
+    let asked = std::env::var_os("CARGO_FEATURE_BEFORE").is_some();
+    for name in today.iter().chain(before.iter().filter(|_| asked)) {
         println!("cargo:rustc-link-lib=static={name}");
         println!("cargo:rerun-if-changed={here}/../target/staticlib/lib{name}.a");
     }

@@ -1,5 +1,7 @@
 //! Compares the proved code with the reference, bit for bit, and times both on the same operands.
 
+#[cfg(feature = "before")]
+mod before;
 mod posts;
 mod proved;
 mod questions;
@@ -11,11 +13,12 @@ use reference::random::Random;
 use reference::{root, time};
 use std::process::ExitCode;
 
-const USAGE: &str = "usage: bench time|compare|questions
+const USAGE: &str = "usage: bench time|compare|questions|before
   time      how long each call of the proved code and of the reference takes, and the ratio
   compare   the proved code against the reference on two million roots, one million places, 500 sweeps and
             20,000 posts of no pattern
-  questions how many whole questions a second the proved program and the reference answer, and its memory";
+  questions how many whole questions a second the proved program and the reference answer, and its memory
+  before    the proved code of an earlier commit beside today's, on the same operands (bench/run before COMMIT)";
 
 /// What stands for a void place over the C interface.
 const VOID: u64 = u64::MAX;
@@ -38,16 +41,22 @@ fn main() -> ExitCode {
             ExitCode::SUCCESS
         }
         "compare" => ExitCode::FAILURE,
-        "questions" => match questions::time() {
-            Ok(()) => ExitCode::SUCCESS,
-            Err(e) => {
-                eprintln!("bench: {e}");
-                ExitCode::FAILURE
-            }
-        },
+        "questions" => finished(questions::time()),
+        #[cfg(feature = "before")]
+        "before" => finished(before::time()),
         _ => {
             eprintln!("{USAGE}");
             ExitCode::from(2)
+        }
+    }
+}
+
+fn finished(done: std::io::Result<()>) -> ExitCode {
+    match done {
+        Ok(()) => ExitCode::SUCCESS,
+        Err(e) => {
+            eprintln!("bench: {e}");
+            ExitCode::FAILURE
         }
     }
 }
@@ -59,11 +68,18 @@ fn report(what: &str, count: usize, [ours, theirs]: [f64; 2], (unit, other): (&s
     println!("  ratio      {:8.1}", ours / theirs);
 }
 
+/// The positive operands of the vectors.
+fn positive() -> Vec<u64> {
+    root::operands().into_iter().filter(|&b| b != 0 && root::root_bits(b) != root::REFUSED).collect()
+}
+
+fn hardware(b: u64) -> u64 {
+    f64::from_bits(b).sqrt().to_bits()
+}
+
 /// Answers the nanoseconds of a proved root.
 fn time_roots() -> f64 {
-    let positive: Vec<u64> =
-        root::operands().into_iter().filter(|&b| b != 0 && root::root_bits(b) != root::REFUSED).collect();
-    let hardware = |b: u64| f64::from_bits(b).sqrt().to_bits();
+    let positive = positive();
     let times = timing::nanoseconds(&positive, [&proved::root_bits, &hardware]);
     report("square root", positive.len(), times, ("ns", "hardware"));
     times[0]
@@ -73,9 +89,14 @@ fn reference_bits(p: Place) -> u64 {
     time::time_at(f64::from_bits(p.lambda), p.k, p.m).map_or(VOID, f64::to_bits)
 }
 
+/// The places of the vectors that have a time.
+fn timed_places() -> Vec<Place> {
+    places().into_iter().filter(|&p| reference_bits(p) != VOID).collect()
+}
+
 /// A place with a time takes four roots, and one more where there are whole revolutions.
 fn time_places(root: f64) {
-    let timed: Vec<Place> = places().into_iter().filter(|&p| reference_bits(p) != VOID).collect();
+    let timed = timed_places();
     let roots = timed.iter().map(|p| 4 + u64::from(p.m > 0)).sum::<u64>() as f64 / timed.len() as f64;
     let times = timing::nanoseconds(&timed, [&|p: Place| proved::time_bits(p.lambda, p.k, p.m), &reference_bits]);
     report("time at a place", timed.len(), times, ("ns", "reference"));

@@ -2,43 +2,65 @@
 
 use std::fs::{self, File};
 use std::io::{self, Read, Write};
-use std::path::Path;
+use std::path::{Path, PathBuf};
 use std::process::{Command, Stdio};
 use std::thread;
 use std::time::Instant;
 
-const ROUNDS: usize = 5;
-const COUNT: usize = 400;
+pub const ROUNDS: usize = 5;
+pub const COUNT: usize = 400;
 const SEED: &str = "14";
 
-const PROVED: &str = "target/bin/lambert";
-const REFERENCE: &str = "reference/target/release/reference";
+pub const PROVED: &str = "target/bin/lambert";
+pub const REFERENCE: &str = "reference/target/release/reference";
+
+/// A program and the words that make it answer questions.
+pub type Program = (&'static str, &'static [&'static str]);
+pub const TODAY: [Program; 2] = [(PROVED, &[]), (REFERENCE, &["solve"])];
 
 /// What the reference calls a sort of questions, and what it is.
-const SORTS: [(&str, &str); 2] = [("random", "of every sort, some damaged"), ("missions", "as missions ask them")];
+pub const SORTS: [(&str, &str); 2] = [("random", "of every sort, some damaged"), ("missions", "as missions ask them")];
 
 /// Runs both programs over each sort. Fails where one of them does, or where a byte of theirs differs.
 pub fn time() -> io::Result<()> {
     let folder = Path::new("target/questions");
-    fs::create_dir_all(folder)?;
     SORTS.into_iter().try_for_each(|sort| time_sort(sort, folder))
 }
 
 fn time_sort((sort, what): (&str, &str), folder: &Path) -> io::Result<()> {
-    let [asked, ours, theirs] = [sort, "proved", "reference"].map(|name| folder.join(name));
-    run(REFERENCE, &["solver", sort, &COUNT.to_string(), SEED], Path::new("/dev/null"), &asked)?;
-    let mut best = [f64::INFINITY; 2];
-    for _ in 0..ROUNDS {
-        let proved = run(PROVED, &[], &asked, &ours)?;
-        let reference = run(REFERENCE, &["solve"], &asked, &theirs)?;
-        best = [best[0].min(proved), best[1].min(reference)];
-    }
-    let records = fs::read(ours)?;
-    if records != fs::read(theirs)? {
+    let asked = ask(sort, folder)?;
+    let seconds = seconds(&asked, &TODAY, folder)?;
+    if !same(folder, 0, 1)? {
         return Err(io::Error::other(format!("{sort}: the records differ")));
     }
-    report(what, best, &peak_memory(fs::read(asked)?, records.len())?);
+    report(what, seconds, &peak_memory(fs::read(asked)?, fs::read(folder.join("0"))?.len())?);
     Ok(())
+}
+
+/// Writes the questions of a sort to a file, and answers where.
+pub fn ask(sort: &str, folder: &Path) -> io::Result<PathBuf> {
+    fs::create_dir_all(folder)?;
+    let asked = folder.join(sort);
+    run(REFERENCE, &["solver", sort, &COUNT.to_string(), SEED], Path::new("/dev/null"), &asked)?;
+    Ok(asked)
+}
+
+/// The least seconds of each program over the questions, over some rounds taken in turn. What program i writes
+/// is in the file i.
+pub fn seconds<const N: usize>(asked: &Path, programs: &[Program; N], folder: &Path) -> io::Result<[f64; N]> {
+    let mut best = [f64::INFINITY; N];
+    for _ in 0..ROUNDS {
+        for (i, (program, words)) in programs.iter().enumerate() {
+            best[i] = best[i].min(run(program, words, asked, &folder.join(i.to_string()))?);
+        }
+    }
+    Ok(best)
+}
+
+/// Whether the programs i and j wrote the same.
+pub fn same(folder: &Path, i: usize, j: usize) -> io::Result<bool> {
+    let written = |i: usize| fs::read(folder.join(i.to_string()));
+    Ok(written(i)? == written(j)?)
 }
 
 /// Runs a program over a file, with its output in another, and answers the seconds that it took. Words on

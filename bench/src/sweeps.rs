@@ -6,7 +6,7 @@ use reference::sweep::{crossings, Walk};
 use reference::time::{time_at, HIGHEST_TURNING, LOWEST, MOST_TURNS};
 
 /// A lambda, M and a wanted time.
-type Sweep = (f64, u16, f64);
+pub type Sweep = (f64, u16, f64);
 
 /// A lambda over (-1, 1), with the time of some place as the wanted one.
 fn sweep(m: u16, random: &mut Random) -> Sweep {
@@ -15,11 +15,11 @@ fn sweep(m: u16, random: &mut Random) -> Sweep {
     (lambda, m, time_at(lambda, k, m).unwrap_or(1.0))
 }
 
-fn ours((lambda, m, wanted): Sweep) -> u64 {
+pub fn ours((lambda, m, wanted): Sweep) -> u64 {
     proved::sweep_number(lambda.to_bits(), m, wanted.to_bits())
 }
 
-fn theirs((lambda, m, wanted): Sweep) -> u64 {
+pub fn theirs((lambda, m, wanted): Sweep) -> u64 {
     let found = crossings(lambda, m, wanted);
     let walk = match found.walk {
         Walk::Timed => 0,
@@ -29,11 +29,16 @@ fn theirs((lambda, m, wanted): Sweep) -> u64 {
     walk + found.brackets.len() as u64
 }
 
-pub fn time() {
+/// The sweeps that are timed, by their sort.
+pub fn sorts() -> [(&'static str, Vec<Sweep>); 2] {
     let mut random = Random::new(12);
-    let without: Vec<Sweep> = (0..8).map(|_| sweep(0, &mut random)).collect();
-    let with: Vec<Sweep> = (1..=MOST_TURNS).map(|m| sweep(m, &mut random)).collect();
-    for (what, sweeps) in [("a sweep, M = 0", without), ("a sweep, M from 1 to 16", with)] {
+    let without = (0..8).map(|_| sweep(0, &mut random)).collect();
+    let with = (1..=MOST_TURNS).map(|m| sweep(m, &mut random)).collect();
+    [("a sweep, M = 0", without), ("a sweep, M from 1 to 16", with)]
+}
+
+pub fn time() {
+    for (what, sweeps) in sorts() {
         let times = timing::nanoseconds(&sweeps, [&ours, &theirs]);
         report(what, sweeps.len(), times.map(|t| t / 1e6), ("ms", "reference"));
     }

@@ -1,0 +1,66 @@
+//! The proved code of an earlier commit, of today, and what both are measured by: one run, the same operands.
+
+use crate::questions::{self, COUNT, PROVED, REFERENCE, SORTS};
+use crate::sweeps::{self, Sweep};
+use crate::{hardware, positive, proved, reference_bits, timed_places, timing};
+use reference::places::Place;
+use std::io;
+use std::path::Path;
+
+/// Where bench/run keeps the earlier commit.
+const LAMBERT: &str = "target/before/target/bin/lambert";
+
+extern "C" {
+    fn before_root_bits(b: u64) -> u64;
+    fn before_time_bits(b: u64, k: i64, m: u16) -> u64;
+    fn before_sweep_number(b: u64, m: u16, w: u64) -> u64;
+}
+
+fn root(b: u64) -> u64 {
+    // SAFETY: the function takes and returns a number and has no precondition.
+    unsafe { before_root_bits(b) }
+}
+
+fn place(p: Place) -> u64 {
+    // SAFETY: the function takes and returns numbers and has no precondition.
+    unsafe { before_time_bits(p.lambda, p.k, p.m) }
+}
+
+fn sweep((lambda, m, wanted): Sweep) -> u64 {
+    // SAFETY: the function takes and returns numbers and has no precondition.
+    unsafe { before_sweep_number(lambda.to_bits(), m, wanted.to_bits()) }
+}
+
+pub fn time() -> io::Result<()> {
+    measure("square root", "hardware", &positive(), [&root, &proved::root_bits, &hardware]);
+    let now = |p: Place| proved::time_bits(p.lambda, p.k, p.m);
+    measure("time at a place", "reference", &timed_places(), [&place, &now, &reference_bits]);
+    for (what, operands) in sweeps::sorts() {
+        measure(what, "reference", &operands, [&sweep, &sweeps::ours, &sweeps::theirs]);
+    }
+    let folder = Path::new("target/questions");
+    for (sort, what) in SORTS {
+        let programs: [questions::Program; 3] = [(LAMBERT, &[]), (PROVED, &[]), (REFERENCE, &["solve"])];
+        let seconds = questions::seconds(&questions::ask(sort, folder)?, &programs, folder)?;
+        let records = if questions::same(folder, 0, 1)? { "every record equal" } else { "some records differ" };
+        println!("questions {what}, {COUNT} of them, {records}, the best of {} rounds:", questions::ROUNDS);
+        show("ms", "reference", seconds.map(|s| 1e3 * s / COUNT as f64));
+    }
+    Ok(())
+}
+
+fn measure<T: Copy>(what: &str, third: &str, operands: &[T], functions: [&dyn Fn(T) -> u64; 3]) {
+    let differ = operands.iter().filter(|&&x| functions[0](x) != functions[1](x)).count();
+    println!(
+        "{what}, {} operands, of which {differ} have another result, the best of {} rounds:",
+        operands.len(),
+        timing::ROUNDS
+    );
+    show("ns", third, timing::nanoseconds(operands, functions));
+}
+
+fn show(unit: &str, third: &str, [before, now, other]: [f64; 3]) {
+    println!("  before     {before:12.2} {unit}, {:.2} times today's", before / now);
+    println!("  today      {now:12.2} {unit}");
+    println!("  {third:<10} {other:12.2} {unit}, today's is {:.1} times that", now / other);
+}
