@@ -5,6 +5,7 @@ mod Patterns
 pub mod Comparisons
 mod Magnitudes
 pub mod Bits
+mod Trials
 mod Rounds
 mod Normalising
 mod Assembly

@@ -1,10 +1,11 @@
 -- `digits::floor_root` meets its contract. The loop's invariant is `Kept`: the root of a * 2 ^ 54 in its digits from some unit up, as the trial that comes next and as what its square lacks.
--- The measure is ones.
+-- The measure is the number of rounds that are left, 27 at the first (`at-most-27`).
 use Prim.Native.Nat.{_*_, _^_}
 use native.Mathlib.Omega.{arith}
 use lib.Dec.{lit≤}
 use borrow.Author.Needs.{needs}
-use Rattle.float64.proofs.Rounds.{Found, Kept, Begun, small, ones-small, left-le, begun, first, second, start, ended}
+use Rattle.float64.proofs.Trials.{Found, small, left-le}
+use Rattle.float64.proofs.Rounds.{Kept, Begun, begun, ones-small, roundsLeft, fewer, first, second, start, ended}
 use Rattle.float64.proofs.digits.floor_root.Statement.{statement}
 use Rattle.float64.proofs.digits.floor_root.Tie as tie
 
@@ -12,7 +13,7 @@ abbrev Inv-loop : tie.InvT-loop
 Inv-loop a trial₀ rest₀ ones₀ trial rest ones = Kept (a * 2 ^ 54) ones trial rest
 
 abbrev μ-loop : tie.MeasureT-loop
-μ-loop a trial₀ rest₀ ones₀ trial rest ones = ones
+μ-loop a trial₀ rest₀ ones₀ trial rest ones = roundsLeft ones
 
 mul-rest : tie.Need-mul-rest Inv-loop μ-loop
 mul-rest c = search needs
@@ -82,7 +83,7 @@ left-of-requires-2 c κs =
     (omega arith, omega arith)
 
 loop-less : tie.Need-loop-less Inv-loop μ-loop
-loop-less c = search needs
+loop-less c = fewer (head (c .before .before .before .before))
 
 loop-again : tie.Need-loop-again Inv-loop μ-loop
 loop-again c =

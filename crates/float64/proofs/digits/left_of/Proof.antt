@@ -1,6 +1,6 @@
 -- `digits::left_of` meets its contract: of numbers below 2 ^ 63 the difference wraps, and is at least 2 ^ 63, exactly where it is negative.
 use borrow.Author.Needs.{needs}
-use Rattle.float64.proofs.Rounds.{taken, not-taken}
+use Rattle.float64.proofs.Trials.{taken, not-taken}
 use Rattle.float64.proofs.digits.left_of.Statement.{statement}
 use Rattle.float64.proofs.digits.left_of.Tie as tie
 
