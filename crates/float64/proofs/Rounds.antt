@@ -83,7 +83,7 @@ fewer b = subst (λ (o : ℕ). roundsLeft (o / 4) < roundsLeft o) (sym (b .ones-
 pub ones-small : {m ones trial rest : ℕ} → Begun m ones trial rest → ones < 2 ^ 58
 ones-small b = omega (arith, b .ones-is, b .found .part .room)
 
--- the middle multiple is tried
+-- the first trial, of what a digit 2 takes
 pub first : (m ones trial rest : ℕ) {left next : ℕ} → Chosen rest trial rest (rest - trial) left → Chosen rest trial (bitXor trial (2 * ones)) (trial + 2 * ones) next
     → (b : Begun m ones trial rest) → Found m (2 * b .w) 8 next (4 * left)
 first m ones trial rest x y b =
@@ -95,7 +95,7 @@ first m ones trial rest x y b =
     four-times : {u t r : ℕ} → Found m u 2 t r → Found m u 8 t (4 * r)
     four-times f = record { count = f .count; lack = f .lack; part = f .part; trial-is = f .trial-is; rest-is = omega (arith, f .rest-is) }
 
--- the lower or the upper one is tried
+-- the second trial, of a 1 in place of a 0 or a 3 in place of a 2
 pub second : (m ones trial rest : ℕ) {trial₀ rest₀ left next : ℕ} → Chosen rest (2 * trial) rest (rest - 2 * trial) left → Chosen rest (2 * trial) (bitXor trial ones) (trial + ones) next
     → (b : Begun m ones trial₀ rest₀) → Found m (2 * b .w) 8 trial rest → Kept m (ones / 4) next left
 second m ones trial rest x y b f = record {

@@ -10,13 +10,13 @@ use lib.Bits.{bitXor, xor-block, xor-zero-r}
 use Rattle.float64.specs.Internals.{Chosen, below, above}
 
 -- q is the root of m with its digits below the unit u left out, and y * u is what its square lacks; with one unit more the square is above m.
--- The last fact keeps every number within 64 bits.
+-- The last two facts keep every number within 64 bits.
 pub record Part (m u q y : ℕ) : Type 0 where
   pub whole : q * q + y * u ≡ m
   pub under : y < 2 * q + u
   pub room : q + u ≤ 2 ^ 54
 
--- ---- a difference modulo 2 ^ 64, of numbers below 2 ^ 63, says by its top bit whether it is one
+-- ---- a difference modulo 2 ^ 64, of numbers below 2 ^ 63, says by its top bit whether y is below t
 pub taken : (y t d : ℕ) → y < 2 ^ 63 → t < 2 ^ 63 → (d + t) % 2 ^ 64 ≡ y → d < 0x8000_0000_0000_0000 → Chosen y t y (y - t) d
 taken y t d a b e h = subst (Chosen y t y (y - t)) (less y t d b e h) (above (fits y t d b e h))
   where
@@ -84,11 +84,11 @@ pub record Found (m u e trial rest : ℕ) : Type 0 where
 lack-is : {m trial rest : ℕ} (v e : ℕ) (f : Found m (2 * v) (2 * e) trial rest) → rest ≡ e * (2 * f .lack)
 lack-is v e f = omega (arith, f .rest-is)
 
--- what the digit 1 takes from e times the lack
+-- what a binary digit 1 takes from e times the lack
 multiple-is : {m trial rest multiple : ℕ} (v e : ℕ) → 2 * multiple ≡ e * trial → (f : Found m (2 * v) (2 * e) trial rest) → multiple ≡ e * (2 * (f .count * (2 * v)) + v)
 multiple-is v e t f = let g = t ∙ ap (λ (x : ℕ). e * x) (f .trial-is) in omega arith
 
--- ---- one digit, with `ones` at its place: 0 where the multiple is above the rest, and else 1
+-- ---- one binary digit, with `ones` at its place: 0 where what a 1 takes is above the rest, and else 1
 pub digit : (m v e trial ones multiple rest : ℕ) {left next : ℕ} → Power v → 0 < e → ones ≡ 3 * v → 2 * multiple ≡ e * trial
     → Chosen rest multiple rest (rest - multiple) left → Chosen rest multiple (bitXor trial ones) (trial + ones) next → Found m (2 * v) (2 * e) trial rest → Found m v e next left
 digit m v e trial ones multiple rest p pos o t (below l) (below k) f = record {

@@ -3,14 +3,15 @@ ghost use Prim.Native.Nat.{_-_, _*_, _^_, _<_};
 ghost use Rattle.float64.specs.Isqrt.{Floor};
 ghost use Rattle.float64.specs.Internals.{Chosen};
 
-// The root of a * 2^54, cut to a whole number: 27 rounds. With u the weight of the last digit found,
-// root^2 + rest / 4 * u = a * 2^54 at the head of a round, and trial = 4 * root + u is what the
-// round's digit 2 takes from rest. This middle multiple is tried first. Then, from four times what is
-// left, twice the second trial is: it makes the digit a 1 in place of a 0, or a 3 in place of a 2.
-// A trial ends in the binary digits 10 where its digit will stand. After a 0 the next trial ends in 01
-// there, and after a 1 in 101. These are 10 xor 11 and 10 + 11, and `ones` is 11 at the place of the
-// round's second digit. A difference in place of the xor would be made one with the sum by the
-// compiler, and that sum would come after the choice, where everything waits for it.
+// The root of a * 2^54, cut to a whole number: 27 rounds, each of two binary digits, or one from 0 to 3.
+// With u the weight of the last digit found, 2^54 at first, root^2 + rest / 4 * u = a * 2^54 at the head
+// of a round, and trial = 4 * root + u is what a digit 2 takes from rest. That is tried first. Then
+// 2 * second is taken from 4 times what is left, if it can be: the digit is 1 and not 0, or 3 and not 2.
+// With v the weight of the binary digit that is tried, a trial ends in 10, the 0 at the place of v. The
+// next one is the root with that digit, and 01 after it: it ends in 001 after a 0, and in 101 after a 1.
+// These are 10 xor 11 and 10 + 11, and `ones` is 11 at the place of the round's second binary digit.
+// trial - v in place of the xor is the same number, but LLVM makes one sum of it and the other trial,
+// after the choice, where everything waits for it.
 pub(crate) fn floor_root(a: u64) -> u64
     requires { ⌜ a < 2 ^ 54 ⌝ }
     ensures { λ r. ⌜ Floor (a * 2 ^ 54) r ⌝ }
@@ -32,8 +33,8 @@ pub(crate) fn floor_root(a: u64) -> u64
     trial / 4
 }
 
-// What is left of y when t is taken from it, if it can be. The difference is there before that is
-// known, and its sign then decides, by a conditional move.
+// What is left of y when t is taken from it, if it can be. The difference is worked out in any case,
+// and its top bit then decides, by a conditional move.
 fn left_of(y: u64, t: u64) -> u64
     requires { ⌜ (y < 2 ^ 63) × (t < 2 ^ 63) ⌝ }
     ensures { λ r. ⌜ Chosen y t y (y - t) r ⌝ }
