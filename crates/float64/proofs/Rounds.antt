@@ -1,8 +1,8 @@
--- The rounds of the digit loop, on plain numbers: what holds at its head (`Kept`), a round's two trials (`first`, `second`), how many rounds there are (`at-most-27`, `fewer`),
+-- The rounds of the digit loop, on plain numbers: what holds at its head (`Kept`), a round's two trials (`first`, `second`), how many rounds there are (`roundsLeft`, `fewer`),
 -- the first round and the last (`start`, `ended`).
 use mathlib.Core.Path.{_≡_, refl, sym, _∙_, subst, subst₂}
 use Prim.Native.Nat.{ℕ, zero, suc, _+_, _-_, _*_, _/_, _^_, _≤_, _<_}
-use native.Mathlib.Nat.{lt-irrefl, pow-succ'}
+use native.Mathlib.Nat.{lt-irrefl, le-refl, le-trans, le-of-lt, pow-succ'}
 use native.Mathlib.Omega.{arith}
 use lib.Dec.{lit<}
 use lib.Bits.{bitXor}
@@ -33,10 +33,19 @@ pub data Place : ℕ → ℕ → Type 0 where
   last : Place 1 0
   more : {w : ℕ} → FourPower w → Place (4 * w) (3 * w)
 
+-- `ones` of the next round
+quarter : (w : ℕ) → 3 * w ≡ 3 * (4 * w) / 4
+quarter w = omega arith
+
+-- a round takes two binary digits off `ones`, so that its length counts the rounds that are left
+abbrev pub roundsLeft : ℕ → ℕ
+roundsLeft ones = size ones / 2
+
 pub record Kept (m ones trial rest : ℕ) : Type 0 where
   pub unit : ℕ
   pub place : Place unit ones
   pub found : Found m unit 4 trial rest
+  pub at-most-27 : roundsLeft ones ≤ 27
 
 -- and within a round, of which w is the second digit's unit
 pub record Begun (m ones trial rest : ℕ) : Type 0 where
@@ -44,21 +53,14 @@ pub record Begun (m ones trial rest : ℕ) : Type 0 where
   pub four-power : FourPower w
   pub ones-is : ones ≡ 3 * w
   pub found : Found m (4 * w) 4 trial rest
+  pub at-most-27 : roundsLeft ones ≤ 27
 
 pub begun : (m ones trial rest : ℕ) → 0 < ones → Kept m ones trial rest → Begun m ones trial rest
-begun m ones trial rest h k = by (k .place) h (k .found)
+begun m ones trial rest h k = by (k .place) h (k .found) (k .at-most-27)
   where
-    by : {u o : ℕ} → Place u o → 0 < o → Found m u 4 trial rest → Begun m o trial rest
-    by last l f = absurd (lt-irrefl 0 l)
-    by (more {w} p) l f = record { w = w; four-power = p; ones-is = refl; found = f }
-
--- a round takes two binary digits off `ones`, so that its length counts the rounds that are left
-abbrev pub roundsLeft : ℕ → ℕ
-roundsLeft ones = size ones / 2
-
-pub at-most-27 : roundsLeft 0x0030_0000_0000_0000 ≡ 27
-unfolding size
-at-most-27 = refl
+    by : {u o : ℕ} → Place u o → 0 < o → Found m u 4 trial rest → roundsLeft o ≤ 27 → Begun m o trial rest
+    by last l f r = absurd (lt-irrefl 0 l)
+    by (more {w} p) l f r = record { w = w; four-power = p; ones-is = refl; found = f; at-most-27 = r }
 
 pub fewer : {m ones trial rest : ℕ} → Begun m ones trial rest → roundsLeft (ones / 4) < roundsLeft ones
 unfolding size
@@ -69,9 +71,6 @@ fewer b = subst (λ (o : ℕ). roundsLeft (o / 4) < roundsLeft o) (sym (b .ones-
       where
         two-less : (z : ℕ) → z / 2 < (z + 2) / 2
         two-less z = omega arith
-
-    quarter : (w : ℕ) → 3 * w ≡ 3 * (4 * w) / 4
-    quarter w = omega arith
 
     four-times : (w : ℕ) → 3 * w * 2 ^ 2 ≡ 3 * (4 * w)
     four-times w = omega arith
@@ -101,6 +100,7 @@ pub second : (m ones trial rest : ℕ) {trial₀ rest₀ left next : ℕ} → Ch
 second m ones trial rest x y b f = record {
   unit = b .w;
   place = subst (λ (o : ℕ). Place (b .w) (o / 4)) (sym (b .ones-is)) (next-place (b .four-power));
+  at-most-27 = le-trans (le-of-lt (fewer b)) (b .at-most-27);
   found = digit m (b .w) 4 trial ones (2 * trial) rest (is-power (b .four-power)) (lit< tt) (b .ones-is) (doubled trial) x y f;
 }
   where
@@ -110,13 +110,11 @@ second m ones trial rest x y b f = record {
     next-place : {v : ℕ} → FourPower v → Place v (3 * v / 4)
     next-place one = last
     next-place (four {w} p) = subst (Place (4 * w)) (quarter w) (more p)
-      where
-        quarter : (x : ℕ) → 3 * x ≡ 3 * (4 * x) / 4
-        quarter x = omega arith
 
 -- ---- before the first round and after the last
 pub start : (a : ℕ) → a < 2 ^ 54 → Kept (a * 2 ^ 54) 0x0030_0000_0000_0000 0x0040_0000_0000_0000 (4 * a)
-start a h = record { unit = 2 ^ 54; place = more (four-power 26); found = record { count = 0; lack = a; part = record { whole = omega arith; under = omega arith; room = omega arith }; trial-is = refl; rest-is = refl } }
+unfolding size
+start a h = record { unit = 2 ^ 54; place = more (four-power 26); found = record { count = 0; lack = a; part = record { whole = omega arith; under = omega arith; room = omega arith }; trial-is = refl; rest-is = refl }; at-most-27 = le-refl 27 }
   where
     four-power : (l : ℕ) → FourPower (4 ^ l)
     four-power zero = one

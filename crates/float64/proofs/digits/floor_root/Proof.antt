@@ -1,5 +1,5 @@
 -- `digits::floor_root` meets its contract. The loop's invariant is `Kept`: the root of a * 2 ^ 54 in its digits from some unit up, as the trial that comes next and as what its square lacks.
--- The measure is the number of rounds that are left, 27 at the first (`at-most-27`).
+-- The measure is the number of rounds that are left, which the invariant has at 27 or less: so many rounds there are at the most.
 use Prim.Native.Nat.{_*_, _^_}
 use native.Mathlib.Omega.{arith}
 use lib.Dec.{lit≤}
