@@ -34,7 +34,8 @@ pub(crate) fn floor_root(a: u64) -> u64
 }
 
 // What is left of y when t is taken from it, if it can be. The difference is worked out in any case,
-// and its top bit then decides, by a conditional move.
+// and its top bit then decides, by a conditional move. Of y < t LLVM would make a choice first and a
+// difference after it.
 fn left_of(y: u64, t: u64) -> u64
     requires { ⌜ (y < 2 ^ 63) × (t < 2 ^ 63) ⌝ }
     ensures { λ r. ⌜ Chosen y t y (y - t) r ⌝ }
