@@ -32,11 +32,11 @@ fn sweep((lambda, m, wanted): Sweep) -> u64 {
 }
 
 pub fn time() -> io::Result<()> {
-    measure("square root", "hardware", &positive(), [&root, &proved::root_bits, &hardware]);
+    measure("square root", ("ns", "hardware"), &positive(), [&root, &proved::root_bits, &hardware]);
     let now = |p: Place| proved::time_bits(p.lambda, p.k, p.m);
-    measure("time at a place", "reference", &timed_places(), [&place, &now, &reference_bits]);
+    measure("time at a place", ("ns", "reference"), &timed_places(), [&place, &now, &reference_bits]);
     for (what, operands) in sweeps::sorts() {
-        measure(what, "reference", &operands, [&sweep, &sweeps::ours, &sweeps::theirs]);
+        measure(what, ("ms", "reference"), &operands, [&sweep, &sweeps::ours, &sweeps::theirs]);
     }
     let folder = Path::new("target/questions");
     for (sort, what) in SORTS {
@@ -44,23 +44,27 @@ pub fn time() -> io::Result<()> {
         let seconds = questions::seconds(&questions::ask(sort, folder)?, &programs, folder)?;
         let records = if questions::same(folder, 0, 1)? { "every record equal" } else { "some records differ" };
         println!("questions {what}, {COUNT} of them, {records}, the best of {} rounds:", questions::ROUNDS);
-        show("ms", "reference", seconds.map(|s| 1e3 * s / COUNT as f64));
+        show(("ms", "reference"), seconds.map(|s| 1e3 * s / COUNT as f64));
     }
     Ok(())
 }
 
-fn measure<T: Copy>(what: &str, third: &str, operands: &[T], functions: [&dyn Fn(T) -> u64; 3]) {
+/// The unit, ns or ms, and what the third function is.
+type Shown = (&'static str, &'static str);
+
+fn measure<T: Copy>(what: &str, shown: Shown, operands: &[T], functions: [&dyn Fn(T) -> u64; 3]) {
     let differ = operands.iter().filter(|&&x| functions[0](x) != functions[1](x)).count();
     println!(
         "{what}, {} operands, of which {differ} have another result, the best of {} rounds:",
         operands.len(),
         timing::ROUNDS
     );
-    show("ns", third, timing::nanoseconds(operands, functions));
+    let scale = if shown.0 == "ms" { 1e6 } else { 1.0 };
+    show(shown, timing::nanoseconds(operands, functions).map(|t| t / scale));
 }
 
-fn show(unit: &str, third: &str, [before, now, other]: [f64; 3]) {
-    println!("  before     {before:12.2} {unit}, {:.2} times today's", before / now);
-    println!("  today      {now:12.2} {unit}");
-    println!("  {third:<10} {other:12.2} {unit}, today's is {:.1} times that", now / other);
+fn show((unit, third): Shown, [before, now, other]: [f64; 3]) {
+    println!("  before     {before:8.2} {unit}, {:.2} times today's", before / now);
+    println!("  today      {now:8.2} {unit}");
+    println!("  {third:<10} {other:8.2} {unit}, today's is {:.1} times that", now / other);
 }
