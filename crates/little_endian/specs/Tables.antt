@@ -1,7 +1,15 @@
 -- Numbers one after another in bytes, by a table of their widths. Definitions only.
-use Prim.Native.Nat.{ℕ, _+_}
+use Prim.Native.Nat.{ℕ, _+_, _-_}
 use mathlib.Core.List.{List, [], _∷_, _++_}
+use lib.ListN.{length, replicate}
 use Rattle.little_endian.specs.Bytes.{bytesOf, numberAt}
+
+-- how many places a table has, and some numbers in its first places, with zeros after them
+abbrev pub places : ℕ
+places = 18
+
+abbrev pub inPlaces : List ℕ → List ℕ
+inPlaces vs = vs ++ replicate (places - length vs) 0
 
 -- how many bytes the fields take
 unfoldable pub total : List ℕ → ℕ

@@ -6,6 +6,7 @@ mod typed;
 mod words;
 
 pub use bytes::word_at;
+pub use tables::PLACES;
 pub use tables::put_numbers;
 pub use typed::u8_at;
 pub use typed::u16_at;

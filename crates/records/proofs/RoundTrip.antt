@@ -56,11 +56,11 @@ question-back q after h =
     ∙ simp (vector-back (q .r1) (h .r1), vector-back (q .r2) (h .r2), read-back (q .mu) (h .mu), read-back (q .time) (h .time))
 
 headFrom : List ℕ → Head
-headFrom v = record { length = getD v 0 0; kind = getD v 1 0; job = getD v 2 0; revision = getD v 3 0; last = getD v 4 0 }
+headFrom v = record { length = getD v 0 0; kind = getD v 1 0; job = getD v 2 0; revision = getD v 3 0; number = getD v 4 0 }
 
 pub head-back : (h : Head) (after : List ℕ) → HeadHeld h → headOf (headBytes h ++ after) ≡ h
 unfolding headOf headBytes headFrom encode headFields decode packed
-head-back h after r = ap headFrom (table-back (4 ∷ 2 ∷ 4 ∷ 4 ∷ 2 ∷ []) _ [] after (r .length ⟫ r .kind ⟫ r .job ⟫ r .revision ⟫ r .last ⟫ done))
+head-back h after r = ap headFrom (table-back (4 ∷ 2 ∷ 4 ∷ 4 ∷ 2 ∷ []) _ [] after (r .length ⟫ r .kind ⟫ r .job ⟫ r .revision ⟫ r .number ⟫ done))
 
 entryFrom : List ℕ → Entry
 entryFrom v = record {

@@ -1,22 +1,31 @@
 -- The length of each record's bytes.
 use mathlib.Core.Path.{_≡_}
 use mathlib.Core.List.{[], _∷_}
+use Prim.Native.Nat.{ℕ}
 use lib.ListN.{length, length-append}
-use Rattle.records.specs.Layout.{encode, questionFields, headFields, entryFields}
-use Rattle.records.specs.Records.{questionBytes, headBytes, entryBytes}
+use Rattle.records.specs.Layout.{encode, questionFields, headFields, entryFields, conflictFields, questionSize, headSize, entrySize, refusalSize, conflictSize}
+use Rattle.records.specs.Records.{questionBytes, headBytes, entryBytes, refusalHeadOf, refusalBytes, conflictBytes}
 use Rattle.records.specs.declared.Question.{Question}
 use Rattle.records.specs.declared.Head.{Head}
 use Rattle.records.specs.declared.Entry.{Entry}
 use Rattle.little_endian.proofs.Tabled.{bytes-length}
 
-pub question-length : (q : Question) → length (questionBytes q) ≡ 82
+pub question-length : (q : Question) → length (questionBytes q) ≡ questionSize
 unfolding questionBytes encode questionFields
 question-length q = simp (length-append, bytes-length)
 
-pub head-length : (h : Head) → length (headBytes h) ≡ 16
+pub head-length : (h : Head) → length (headBytes h) ≡ headSize
 unfolding headBytes encode headFields
 head-length h = simp (length-append, bytes-length)
 
-pub entry-length : (e : Entry) → length (entryBytes e) ≡ 64
+pub entry-length : (e : Entry) → length (entryBytes e) ≡ entrySize
 unfolding entryBytes encode entryFields
 entry-length e = simp (length-append, bytes-length)
+
+pub refusal-length : (job revision number : ℕ) → length (refusalBytes job revision number) ≡ refusalSize number
+unfolding refusalBytes
+refusal-length job revision number = head-length (refusalHeadOf job revision number)
+
+pub conflict-length : (job revision : ℕ) → length (conflictBytes job revision) ≡ conflictSize
+unfolding conflictBytes encode conflictFields
+conflict-length job revision = simp (length-append, bytes-length)

@@ -3,7 +3,7 @@ use mathlib.Core.Path.{_≡_, refl}
 use mathlib.Core.Bool.{true}
 use mathlib.Core.List.{List, [], _∷_}
 use Prim.Native.Nat.{ℕ, _-_}
-use Rattle.records.specs.Layout.{LENGTH, questionFields, headFields, entryFields, questionLengths, questionSize, headSize, entrySize, tiles}
+use Rattle.records.specs.Layout.{LENGTH, questionFields, headFields, entryFields, conflictFields, questionLengths, questionSize, headSize, entrySize, conflictSize, tiles}
 
 pub question-tiles : tiles 0 questionFields questionSize ≡ true
 unfolding tiles questionFields
@@ -16,6 +16,10 @@ head-tiles = refl
 pub entry-tiles : tiles 0 entryFields entrySize ≡ true
 unfolding tiles entryFields
 entry-tiles = refl
+
+pub conflict-tiles : tiles 0 conflictFields conflictSize ≡ true
+unfolding tiles conflictFields
+conflict-tiles = refl
 
 -- a question in force is as long as its table, and its length counts what follows it
 pub question-lengths : questionLengths ≡ (questionSize - LENGTH .width) ∷ []

@@ -1,6 +1,7 @@
--- The layout of the question, the refusal, the answer's head and its entries, once (01, Records on the wire): each field's offset and width in bytes. Definitions only.
--- The code's tables of widths are tied to these by its contracts. `tiles` says that a table has no gap and no overlap.
-use Prim.Native.Nat.{ℕ, _+_, _*_}
+-- The layout of the question, the answer's head and its entries, the refusal, and the conflict of a board's slot, once (01, Records
+-- on the wire; 02, A1): each field's offset and width in bytes, and every size, length and kind by name. Definitions only.
+-- The code's tables of widths and its constants are tied to these by its contracts. `tiles` says that a table has no gap and no overlap.
+use Prim.Native.Nat.{ℕ, _+_, _-_, _*_}
 use mathlib.Core.Bool.{Bool, _&&_}
 use mathlib.Core.List.{List, [], _∷_, _++_}
 use lib.Dec.{eqb}
@@ -13,7 +14,7 @@ pub record Field : Type 0 where
 abbrev pub field : ℕ → ℕ → Field
 field o w = record { offset = o; width = w }
 
--- what a question, an answer and a refusal begin with: the length, counting what follows it, and the kind; then job and revision
+-- what every record begins with: the length, counting what follows it, and the kind; then job and revision
 abbrev pub LENGTH : Field
 LENGTH = field 0 4
 
@@ -60,9 +61,9 @@ MU = field 66 8
 abbrev pub TIME : Field
 TIME = field 74 8
 
--- kind 2, an answer: the number of its entries; kind 3, a refusal: its number
-abbrev pub LAST : Field
-LAST = field 14 2
+-- kind 2, an answer: the number of its entries; kind 3, a refusal: its own number
+abbrev pub NUMBER : Field
+NUMBER = field 14 2
 
 -- an entry of an answer: the bracket's lower end, the halvings, the chosen end (0 lower, 1 upper), the velocities v1 and v2
 abbrev pub LOWER : Field
@@ -98,12 +99,28 @@ questionFields =
     LENGTH ∷ KIND ∷ JOB ∷ REVISION ∷ REVOLUTIONS ∷ WAY ∷ SPARE ∷ R1X ∷ R1Y ∷ R1Z ∷ R2X ∷ R2Y ∷ R2Z ∷ MU ∷ TIME ∷ []
 
 unfoldable pub headFields : List Field
-headFields = LENGTH ∷ KIND ∷ JOB ∷ REVISION ∷ LAST ∷ []
+headFields = LENGTH ∷ KIND ∷ JOB ∷ REVISION ∷ NUMBER ∷ []
 
 unfoldable pub entryFields : List Field
 entryFields = LOWER ∷ HALVINGS ∷ CHOSEN ∷ V1X ∷ V1Y ∷ V1Z ∷ V2X ∷ V2Y ∷ V2Z ∷ []
 
--- the sizes of the records in bytes, where their tables end (proofs/Tables.antt): a question, the head, which is a refusal's all, and an entry
+unfoldable pub conflictFields : List Field
+conflictFields = LENGTH ∷ KIND ∷ JOB ∷ REVISION ∷ []
+
+-- the kinds of records; a conflict stands in a board's slots only
+abbrev pub questionKind : ℕ
+questionKind = 1
+
+abbrev pub answerKind : ℕ
+answerKind = 2
+
+abbrev pub refusalKind : ℕ
+refusalKind = 3
+
+abbrev pub conflictKind : ℕ
+conflictKind = 4
+
+-- sizes in bytes, where the tables end (proofs/Tables.antt): a question, an answer's head, an entry, a conflict
 abbrev pub questionSize : ℕ
 questionSize = 82
 
@@ -113,7 +130,14 @@ headSize = 16
 abbrev pub entrySize : ℕ
 entrySize = 64
 
--- an answer with n entries, and the longest one, with eight
+abbrev pub conflictSize : ℕ
+conflictSize = 14
+
+-- a refusal with a number
+abbrev pub refusalSize : ℕ → ℕ
+refusalSize number = headSize
+
+-- an answer with n entries, which is where the entry of index n starts too; how many it may have, and room for the longest
 abbrev pub answerSize : ℕ → ℕ
 answerSize n = headSize + entrySize * n
 
@@ -123,12 +147,26 @@ mostEntries = 8
 abbrev pub answerRoom : ℕ
 answerRoom = answerSize mostEntries
 
+-- the length that a record of a size begins with: it counts what follows it
+abbrev pub lengthFor : ℕ → ℕ
+lengthFor size = size - LENGTH .width
+
+abbrev pub questionLength : ℕ
+questionLength = lengthFor questionSize
+
 -- the lengths in force for a question, and room for the longest one
 unfoldable pub questionLengths : List ℕ
-questionLengths = 78 ∷ []
+questionLengths = questionLength ∷ []
 
 abbrev pub questionRoom : ℕ
 questionRoom = questionSize
+
+-- the numbers of refusal in force: those of 01's table
+abbrev pub firstNumber : ℕ
+firstNumber = 1
+
+abbrev pub lastNumber : ℕ
+lastNumber = 14
 
 -- the number that a field of some bytes holds, and the bytes of a record whose fields hold some numbers
 abbrev pub valueOf : Field → List ℕ → ℕ
@@ -138,6 +176,27 @@ unfoldable pub encode : List Field → List ℕ → List ℕ
 encode [] vs = []
 encode (f ∷ fs) [] = []
 encode (f ∷ fs) (v ∷ vs) = bytesOf (f .width) v ++ encode fs vs
+
+-- what a record's bytes name: their kind, job and revision, and the number of a refusal or of an answer's entries
+abbrev pub kindOf : List ℕ → ℕ
+kindOf s = valueOf KIND s
+
+abbrev pub jobOf : List ℕ → ℕ
+jobOf s = valueOf JOB s
+
+abbrev pub revisionOf : List ℕ → ℕ
+revisionOf s = valueOf REVISION s
+
+abbrev pub numberOf : List ℕ → ℕ
+numberOf s = valueOf NUMBER s
+
+-- the size of the record that some bytes begin, by the length that they begin with
+abbrev pub sizeOf : List ℕ → ℕ
+sizeOf s = valueOf LENGTH s + LENGTH .width
+
+-- the chosen end that the entry of index i of an answer names
+abbrev pub chosenAt : ℕ → List ℕ → ℕ
+chosenAt i s = numberAt (CHOSEN .width) s (answerSize i + CHOSEN .offset)
 
 -- whether fields stand one after another from `at` up to `end`
 unfoldable pub tiles : ℕ → List Field → ℕ → Bool

@@ -1,3 +1,4 @@
 pub mod Layout
+pub mod Constants
 pub mod Records
 pub mod Ranges

@@ -32,7 +32,7 @@ pub record HeadHeld (h : Head) : Type 0 where
   pub kind : h .kind < 2 ^ 16
   pub job : h .job < 2 ^ 32
   pub revision : h .revision < 2 ^ 32
-  pub last : h .last < 2 ^ 16
+  pub number : h .number < 2 ^ 16
 
 pub record EntryHeld (e : Entry) : Type 0 where
   pub lower : SFits w64 (e .lower)

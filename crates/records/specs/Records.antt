@@ -6,7 +6,7 @@ use lib.ListN.{length}
 use Rattle.float64.specs.Notation.{bits, bitsOf}
 use Rattle.float64.specs.declared.Vector.{Vector}
 use Rattle.little_endian.specs.Bytes.{signedBits, signedOf}
-use Rattle.records.specs.Layout.{Field, LENGTH, KIND, JOB, REVISION, REVOLUTIONS, WAY, SPARE, R1X, R1Y, R1Z, R2X, R2Y, R2Z, MU, TIME, LAST, LOWER, HALVINGS, CHOSEN, V1X, V1Y, V1Z, V2X, V2Y, V2Z, questionFields, headFields, entryFields, valueOf, encode}
+use Rattle.records.specs.Layout.{Field, LENGTH, KIND, JOB, REVISION, REVOLUTIONS, WAY, SPARE, R1X, R1Y, R1Z, R2X, R2Y, R2Z, MU, TIME, NUMBER, LOWER, HALVINGS, CHOSEN, V1X, V1Y, V1Z, V2X, V2Y, V2Z, questionFields, headFields, entryFields, conflictFields, answerKind, refusalKind, conflictKind, refusalSize, answerSize, conflictSize, lengthFor, valueOf, encode}
 use Rattle.records.specs.declared.Question.{Question}
 use Rattle.records.specs.declared.Head.{Head}
 use Rattle.records.specs.declared.Entry.{Entry}
@@ -56,20 +56,49 @@ questionBytes q = encode questionFields (questionNumbers q)
 
 -- the 16 bytes of a refusal, and those that an answer begins with
 unfoldable pub headOf : List ℕ → Head
-headOf s = record { length = valueOf LENGTH s; kind = valueOf KIND s; job = valueOf JOB s; revision = valueOf REVISION s; last = valueOf LAST s }
+headOf s = record {
+  length = valueOf LENGTH s;
+  kind = valueOf KIND s;
+  job = valueOf JOB s;
+  revision = valueOf REVISION s;
+  number = valueOf NUMBER s;
+}
 
 abbrev pub headNumbers : Head → List ℕ
-headNumbers h = h .length ∷ h .kind ∷ h .job ∷ h .revision ∷ h .last ∷ []
+headNumbers h = h .length ∷ h .kind ∷ h .job ∷ h .revision ∷ h .number ∷ []
 
 unfoldable pub headBytes : Head → List ℕ
 headBytes h = encode headFields (headNumbers h)
 
--- a refusal of kind 3 with its number, and the head of an answer of kind 2 with n entries
-unfoldable pub refusalOf : ℕ → ℕ → ℕ → Head
-refusalOf job revision number = record { length = 12; kind = 3; job = job; revision = revision; last = number }
+-- the head of a refusal with its number, and of an answer with n entries
+unfoldable pub refusalHeadOf : ℕ → ℕ → ℕ → Head
+refusalHeadOf job revision number = record {
+  length = lengthFor (refusalSize number);
+  kind = refusalKind;
+  job = job;
+  revision = revision;
+  number = number;
+}
 
 unfoldable pub answerHeadOf : ℕ → ℕ → ℕ → Head
-answerHeadOf job revision n = record { length = 12 + 64 * n; kind = 2; job = job; revision = revision; last = n }
+answerHeadOf job revision n = record {
+  length = lengthFor (answerSize n);
+  kind = answerKind;
+  job = job;
+  revision = revision;
+  number = n;
+}
+
+-- a refusal as a whole
+unfoldable pub refusalBytes : ℕ → ℕ → ℕ → List ℕ
+refusalBytes job revision number = headBytes (refusalHeadOf job revision number)
+
+-- a conflict of a job at a revision
+abbrev pub conflictNumbers : ℕ → ℕ → List ℕ
+conflictNumbers job revision = lengthFor conflictSize ∷ conflictKind ∷ job ∷ revision ∷ []
+
+unfoldable pub conflictBytes : ℕ → ℕ → List ℕ
+conflictBytes job revision = encode conflictFields (conflictNumbers job revision)
 
 -- an entry of an answer
 unfoldable pub entryOf : List ℕ → Entry

@@ -1,15 +1,21 @@
-// A refusal, kind 3, and the head of an answer, kind 2: 16 bytes.
+// A refusal, kind 3, and the head of an answer, kind 2.
 ghost use mathlib.Core.Path.{_≡_};
-ghost use mathlib.Core.List.{_++_};
-ghost use lib.ListN.{replicate};
 ghost use Rattle.little_endian.specs.Bytes.{hasRoom, written};
-ghost use Rattle.records.specs.Records.{headOf, headNumbers, headBytes, refusalOf, answerHeadOf};
+ghost use Rattle.little_endian.specs.Tables.{inPlaces};
+ghost use Rattle.records.specs.Layout.{refusalSize, answerSize};
+ghost use Rattle.records.specs.Records.{headOf, headNumbers, headBytes, refusalHeadOf, refusalBytes, answerHeadOf};
+use crate::ANSWER_KIND;
+use crate::ENTRY_SIZE;
+use crate::HEAD_SIZE;
 use crate::Head;
+use crate::LENGTH_SIZE;
+use crate::REFUSAL_KIND;
+use little_endian::PLACES;
 use little_endian::put_numbers;
 use little_endian::u16_at;
 use little_endian::u32_at;
 
-const WIDTHS: [usize; 18] = [4, 2, 4, 4, 2, 0, 0, 0, 0, 0, 0, 0, 0, 0, 0, 0, 0, 0];
+const WIDTHS: [usize; PLACES] = [4, 2, 4, 4, 2, 0, 0, 0, 0, 0, 0, 0, 0, 0, 0, 0, 0, 0];
 
 pub fn read_head(s: &[u8]) -> Head
     ensures { λ r. ⌜ r ≡ headOf (now (s .entry)) ⌝ }
@@ -19,26 +25,27 @@ pub fn read_head(s: &[u8]) -> Head
         kind: u16_at(s, 4),
         job: u32_at(s, 6),
         revision: u32_at(s, 10),
-        last: u16_at(s, 14),
+        number: u16_at(s, 14),
     }
 }
 
 pub fn write_head(out: &mut [u8], h: Head) -> bool
-    ensures { λ r. ⌜ (r ≡ hasRoom (now (out .entry)) (headBytes h)) × (now (out .exit) ≡ written (now (out .entry)) (headBytes h)) ⌝ }
+    ensures room { λ r. ⌜ r ≡ hasRoom (now (out .entry)) (headBytes h) ⌝ }
+    ensures bytes { λ _. ⌜ now (out .exit) ≡ written (now (out .entry)) (headBytes h) ⌝ }
 {
     put_numbers(out, WIDTHS, numbers_of(h))
 }
 
 // What the fields hold, in the table's order.
-fn numbers_of(h: Head) -> [u64; 18]
-    ensures { λ r. ⌜ r ≡ headNumbers h ++ replicate 13 0 ⌝ }
+fn numbers_of(h: Head) -> [u64; PLACES]
+    ensures { λ r. ⌜ r ≡ inPlaces (headNumbers h) ⌝ }
 {
     [
         h.length as u64,
         h.kind as u64,
         h.job as u64,
         h.revision as u64,
-        h.last as u64,
+        h.number as u64,
         0,
         0,
         0,
@@ -55,28 +62,49 @@ fn numbers_of(h: Head) -> [u64; 18]
     ]
 }
 
-// A refusal with its number.
-pub fn refusal(job: u32, revision: u32, number: u16) -> Head
-    ensures { λ r. ⌜ r ≡ refusalOf job revision number ⌝ }
+// The size of a refusal with a number.
+pub fn refusal_size(number: u16) -> usize
+    ensures { λ r. ⌜ r ≡ refusalSize number ⌝ }
+{
+    HEAD_SIZE
+}
+
+// The size of an answer with so many entries, which is where the next entry would start.
+pub fn answer_size(entries: u16) -> usize
+    ensures { λ r. ⌜ r ≡ answerSize entries ⌝ }
+{
+    HEAD_SIZE + ENTRY_SIZE * (entries as usize)
+}
+
+fn refusal_head(job: u32, revision: u32, number: u16) -> Head
+    ensures { λ r. ⌜ r ≡ refusalHeadOf job revision number ⌝ }
 {
     Head {
-        length: 12,
-        kind: 3,
+        length: (refusal_size(number) - LENGTH_SIZE) as u32,
+        kind: REFUSAL_KIND,
         job,
         revision,
-        last: number,
+        number,
     }
 }
 
+// Writes a refusal with its number.
+pub fn write_refusal(out: &mut [u8], job: u32, revision: u32, number: u16) -> bool
+    ensures room { λ r. ⌜ r ≡ hasRoom (now (out .entry)) (refusalBytes job revision number) ⌝ }
+    ensures bytes { λ _. ⌜ now (out .exit) ≡ written (now (out .entry)) (refusalBytes job revision number) ⌝ }
+{
+    write_head(out, refusal_head(job, revision, number))
+}
+
 // What an answer with so many entries begins with.
-pub fn answer_head(job: u32, revision: u32, entries: u8) -> Head
+pub fn answer_head(job: u32, revision: u32, entries: u16) -> Head
     ensures { λ r. ⌜ r ≡ answerHeadOf job revision entries ⌝ }
 {
     Head {
-        length: 12 + 64 * (entries as u32),
-        kind: 2,
+        length: (answer_size(entries) - LENGTH_SIZE) as u32,
+        kind: ANSWER_KIND,
         job,
         revision,
-        last: entries as u16,
+        number: entries,
     }
 }

@@ -1,19 +1,19 @@
-// The question, kind 1: 82 bytes.
+// The question, kind 1.
 ghost use mathlib.Core.Path.{_≡_};
-ghost use mathlib.Core.List.{_++_};
-ghost use lib.ListN.{replicate};
 ghost use Rattle.little_endian.specs.Bytes.{hasRoom, written};
+ghost use Rattle.little_endian.specs.Tables.{inPlaces};
 ghost use Rattle.records.specs.Records.{questionOf, questionNumbers, questionBytes};
 use crate::Question;
 use crate::floats::float_at;
 use crate::floats::vector_at;
 use float64::to_bits;
+use little_endian::PLACES;
 use little_endian::put_numbers;
 use little_endian::u8_at;
 use little_endian::u16_at;
 use little_endian::u32_at;
 
-const WIDTHS: [usize; 18] = [4, 2, 4, 4, 2, 1, 1, 8, 8, 8, 8, 8, 8, 8, 8, 0, 0, 0];
+const WIDTHS: [usize; PLACES] = [4, 2, 4, 4, 2, 1, 1, 8, 8, 8, 8, 8, 8, 8, 8, 0, 0, 0];
 
 pub fn read_question(s: &[u8]) -> Question
     ensures { λ r. ⌜ r ≡ questionOf (now (s .entry)) ⌝ }
@@ -34,14 +34,15 @@ pub fn read_question(s: &[u8]) -> Question
 }
 
 pub fn write_question(out: &mut [u8], q: Question) -> bool
-    ensures { λ r. ⌜ (r ≡ hasRoom (now (out .entry)) (questionBytes q)) × (now (out .exit) ≡ written (now (out .entry)) (questionBytes q)) ⌝ }
+    ensures room { λ r. ⌜ r ≡ hasRoom (now (out .entry)) (questionBytes q) ⌝ }
+    ensures bytes { λ _. ⌜ now (out .exit) ≡ written (now (out .entry)) (questionBytes q) ⌝ }
 {
     put_numbers(out, WIDTHS, numbers_of(q))
 }
 
 // What the fields hold, in the table's order.
-fn numbers_of(q: Question) -> [u64; 18]
-    ensures { λ r. ⌜ r ≡ questionNumbers q ++ replicate 3 0 ⌝ }
+fn numbers_of(q: Question) -> [u64; PLACES]
+    ensures { λ r. ⌜ r ≡ inPlaces (questionNumbers q) ⌝ }
 {
     [
         q.length as u64,

@@ -1,19 +1,21 @@
 -- `heads::answer_head` meets its contract.
-use mathlib.Core.Path.{refl}
 use Rattle.records.specs.Records.{answerHeadOf}
 use borrow.Author.Needs.{needs}
 use Rattle.records.proofs.heads.answer_head.Statement.{statement}
 use Rattle.records.proofs.heads.answer_head.Tie as tie
 
-mul-t5 : tie.Need-mul-t5
-mul-t5 c = search needs
+answer-size-requires : tie.Need-answer-size-requires
+answer-size-requires c κs = tt
 
-add-t6 : tie.Need-add-t6
-add-t6 c = search needs
+sub-t5 : tie.Need-sub-t5
+sub-t5 c = search needs
+
+cast-t6 : tie.Need-cast-t6
+cast-t6 c = search needs
 
 returns : tie.Need-returns
 unfolding answerHeadOf
-returns c = refl
+returns c = simp (c .answer-size .ensures)
 
 pub answer-head-spec : {M : Type 1} → statement M
-answer-head-spec = tie.close (tie.spec mul-t5 add-t6 returns)
+answer-head-spec = tie.close (tie.spec answer-size-requires sub-t5 cast-t6 returns)

@@ -18,7 +18,9 @@ same-length c = search needs
 
 returns : tie.Need-returns
 unfolding headBytes encode headFields packed bytesOf
-returns c = simp (c .before .before .before .numbers-of .ensures) at (c .before .before .put-numbers .ensures)
+returns c =
+    let numbers = c .before .before .before .numbers-of .ensures in
+    simp numbers at (c .before .before .put-numbers .ensures)
 
 pub write-head-spec : {M : Type 1} → statement M
 write-head-spec = tie.close (tie.spec numbers-of-requires put-numbers-requires same-length returns)

@@ -18,7 +18,9 @@ same-length c = search needs
 
 returns : tie.Need-returns
 unfolding questionBytes encode questionFields packed bytesOf
-returns c = simp (c .before .before .before .numbers-of .ensures) at (c .before .before .put-numbers .ensures)
+returns c =
+    let numbers = c .before .before .before .numbers-of .ensures in
+    simp numbers at (c .before .before .put-numbers .ensures)
 
 pub write-question-spec : {M : Type 1} → statement M
 write-question-spec =

@@ -1,12 +1,12 @@
--- `entries::read_entry` meets its contract: each call reads the field that the layout has at its place.
+-- `answer_entries::read_entry` meets its contract: each call reads the field that the layout has at its place.
 use native.Mathlib.Omega.{arith}
 use mir.Facts.{toZ-ofZ}
 use mir.Syntax.{w64}
 use mir.Val.{SFits}
 use Rattle.records.specs.Records.{entryOf}
 use borrow.Author.Needs.{needs}
-use Rattle.records.proofs.entries.read_entry.Statement.{statement}
-use Rattle.records.proofs.entries.read_entry.Tie as tie
+use Rattle.records.proofs.answer_entries.read_entry.Statement.{statement}
+use Rattle.records.proofs.answer_entries.read_entry.Tie as tie
 
 word-at-requires : tie.Need-word-at-requires
 word-at-requires c κs = tt

@@ -1,19 +1,19 @@
-// An entry of an answer: 64 bytes.
+// An entry of an answer.
 ghost use mathlib.Core.Path.{_≡_};
-ghost use mathlib.Core.List.{_++_};
-ghost use lib.ListN.{replicate};
 ghost use Rattle.little_endian.specs.Bytes.{hasRoom, written};
+ghost use Rattle.little_endian.specs.Tables.{inPlaces};
 ghost use Rattle.records.specs.Records.{entryOf, entryNumbers, entryBytes};
 use crate::Entry;
 use crate::floats::vector_at;
 use float64::to_bits;
+use little_endian::PLACES;
 use little_endian::put_numbers;
 use little_endian::signed_bits;
 use little_endian::signed_of;
 use little_endian::u32_at;
 use little_endian::word_at;
 
-const WIDTHS: [usize; 18] = [8, 4, 4, 8, 8, 8, 8, 8, 8, 0, 0, 0, 0, 0, 0, 0, 0, 0];
+const WIDTHS: [usize; PLACES] = [8, 4, 4, 8, 8, 8, 8, 8, 8, 0, 0, 0, 0, 0, 0, 0, 0, 0];
 
 pub fn read_entry(s: &[u8]) -> Entry
     ensures { λ r. ⌜ r ≡ entryOf (now (s .entry)) ⌝ }
@@ -28,14 +28,15 @@ pub fn read_entry(s: &[u8]) -> Entry
 }
 
 pub fn write_entry(out: &mut [u8], e: Entry) -> bool
-    ensures { λ r. ⌜ (r ≡ hasRoom (now (out .entry)) (entryBytes e)) × (now (out .exit) ≡ written (now (out .entry)) (entryBytes e)) ⌝ }
+    ensures room { λ r. ⌜ r ≡ hasRoom (now (out .entry)) (entryBytes e) ⌝ }
+    ensures bytes { λ _. ⌜ now (out .exit) ≡ written (now (out .entry)) (entryBytes e) ⌝ }
 {
     put_numbers(out, WIDTHS, numbers_of(e))
 }
 
 // What the fields hold, in the table's order.
-fn numbers_of(e: Entry) -> [u64; 18]
-    ensures { λ r. ⌜ r ≡ entryNumbers e ++ replicate 9 0 ⌝ }
+fn numbers_of(e: Entry) -> [u64; PLACES]
+    ensures { λ r. ⌜ r ≡ inPlaces (entryNumbers e) ⌝ }
 {
     [
         signed_bits(e.lower),

@@ -1,11 +1,11 @@
--- `entries::numbers_of` meets its contract, by what its calls ensure.
+-- `answer_entries::numbers_of` meets its contract, by what its calls ensure.
 use native.Mathlib.Omega.{arith}
 use mir.Facts.{toZ-ofZ}
 use mir.Syntax.{w64}
 use mir.Val.{SFits}
 use borrow.Author.Needs.{needs}
-use Rattle.records.proofs.entries.numbers_of.Statement.{statement}
-use Rattle.records.proofs.entries.numbers_of.Tie as tie
+use Rattle.records.proofs.answer_entries.numbers_of.Statement.{statement}
+use Rattle.records.proofs.answer_entries.numbers_of.Tie as tie
 
 signed-bits-requires : tie.Need-signed-bits-requires
 signed-bits-requires c κs = tt

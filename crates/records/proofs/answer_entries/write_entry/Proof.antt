@@ -1,11 +1,11 @@
--- `entries::write_entry` meets its contract: the numbers by the table of widths are the entry's bytes.
+-- `answer_entries::write_entry` meets its contract: the numbers by the table of widths are the entry's bytes.
 use Rattle.little_endian.specs.Bytes.{bytesOf}
 use Rattle.little_endian.specs.Tables.{packed}
 use Rattle.records.specs.Layout.{encode, entryFields}
 use Rattle.records.specs.Records.{entryBytes}
 use borrow.Author.Needs.{needs}
-use Rattle.records.proofs.entries.write_entry.Statement.{statement}
-use Rattle.records.proofs.entries.write_entry.Tie as tie
+use Rattle.records.proofs.answer_entries.write_entry.Statement.{statement}
+use Rattle.records.proofs.answer_entries.write_entry.Tie as tie
 
 numbers-of-requires : tie.Need-numbers-of-requires
 numbers-of-requires c κs = tt
@@ -18,7 +18,9 @@ same-length c = search needs
 
 returns : tie.Need-returns
 unfolding entryBytes encode entryFields packed bytesOf
-returns c = simp (c .before .before .before .numbers-of .ensures) at (c .before .before .put-numbers .ensures)
+returns c =
+    let numbers = c .before .before .before .numbers-of .ensures in
+    simp numbers at (c .before .before .put-numbers .ensures)
 
 pub write-entry-spec : {M : Type 1} → statement M
 write-entry-spec =

@@ -1,0 +1,22 @@
+-- The layout's numbers as the code's public constants have them: what those are held to. Definitions only.
+use Rattle.records.specs.Layout.{LENGTH, questionKind, answerKind, refusalKind, conflictKind, questionSize, questionLength, questionRoom, headSize, entrySize, mostEntries, answerRoom, conflictSize, firstNumber, lastNumber}
+use Rattle.records.specs.declared.Constants.{Constants}
+
+abbrev pub layoutConstants : Constants
+layoutConstants = record {
+  «question_kind» = questionKind;
+  «answer_kind» = answerKind;
+  «refusal_kind» = refusalKind;
+  «conflict_kind» = conflictKind;
+  «length_size» = LENGTH .width;
+  «question_size» = questionSize;
+  «question_length» = questionLength;
+  «question_room» = questionRoom;
+  «head_size» = headSize;
+  «entry_size» = entrySize;
+  «most_entries» = mostEntries;
+  «answer_room» = answerRoom;
+  «conflict_size» = conflictSize;
+  «first_number» = firstNumber;
+  «last_number» = lastNumber;
+}
