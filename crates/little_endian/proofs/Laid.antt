@@ -1,4 +1,5 @@
--- Bytes laid over a buffer: where it has room they are its front and the rest stays (`laid`), and without room it stays as it was (`not-laid`). What was laid before and is no longer does not matter (`laid-over`).
+-- Bytes laid over a buffer: where it has room they are its front and the rest stays (`laid`), and without room it stays as it was
+-- (`not-laid`). What was laid before and is no longer does not matter (`laid-over`).
 use mathlib.Core.Path.{_≡_, sym, ap, _∙_}
 use mathlib.Core.List.{List, _++_}
 use Prim.Native.Nat.{ℕ, _+_, _-_, _≤_, _<_}
@@ -20,7 +21,8 @@ pub not-laid : (buffer bytes : List ℕ) → length buffer < length bytes → wr
 unfolding written hasRoom
 not-laid buffer bytes h = rw (lt-leb (length bytes) (length buffer) h)
 
-pub laid-front : (n : ℕ) (buffer bytes : List ℕ) → length bytes ≤ length buffer → n ≤ length bytes → take n (written buffer bytes) ≡ take n bytes
+pub laid-front : (n : ℕ) (buffer bytes : List ℕ) → length bytes ≤ length buffer → n ≤ length bytes →
+    take n (written buffer bytes) ≡ take n bytes
 laid-front n buffer bytes h l = rw (laid buffer bytes h) (take-append-le n bytes (drop (length bytes) buffer) l)
 
 pub laid-over : (buffer a b : List ℕ) → length a ≤ length b → length b ≤ length buffer → written (written buffer a) b ≡ written buffer b
@@ -29,4 +31,5 @@ laid-over buffer a b l h =
     let sum : length a + more ≡ length b = omega arith in
     let far = drop-append-add a (drop (length a) buffer) more ∙ drop-drop more (length a) buffer in
     let behind : drop (length b) (written buffer a) ≡ drop (length b) buffer = rw (laid buffer a (omega arith), ← sum) far in
-    laid (written buffer a) b (omega (arith, laid-length buffer a (omega arith))) ∙ ap (λ (r : List ℕ). b ++ r) behind ∙ sym (laid buffer b h)
+    laid (written buffer a) b (omega (arith, laid-length buffer a (omega arith))) ∙ ap (λ (r : List ℕ). b ++ r) behind
+    ∙ sym (laid buffer b h)

@@ -19,7 +19,10 @@ one-more : (w l : ℕ) → 0 < l → l ≤ w → w - (l - 1) ≡ suc (w - l)
 one-more w l g k = omega arith
 
 pub more-lt : (w l v b : ℕ) → 0 < l → l ≤ w → v < 2 ^ (8 * (w - l)) → b < 256 → v * 256 + b < 2 ^ (8 * (w - (l - 1)))
-more-lt w l v b p q h g = rw (one-more w l p q) (subst (λ (x : ℕ). v * 256 + b < x) (sym (ap (λ (x : ℕ). 2 ^ x) (eight (w - l)) ∙ pow-add 2 (8 * (w - l)) 8)) (fit (2 ^ (8 * (w - l))) h))
+more-lt w l v b p q h g =
+    rw (one-more w l p q)
+    (subst (λ (x : ℕ). v * 256 + b < x) (sym (ap (λ (x : ℕ). 2 ^ x) (eight (w - l)) ∙ pow-add 2 (8 * (w - l)) 8))
+    (fit (2 ^ (8 * (w - l))) h))
   where
     eight : (x : ℕ) → 8 * suc x ≡ 8 * x + 8
     eight x = omega arith
@@ -28,10 +31,12 @@ more-lt w l v b p q h g = rw (one-more w l p q) (subst (λ (x : ℕ). v * 256 + 
     fit x f = omega arith
 
 -- the loop goes down: with l of the bytes left, it has the number of the others
-pub more : (s : List ℕ) (at w l v b : ℕ) → 0 < l → l ≤ w → b ≡ getD s (at + (l - 1)) 0 → v ≡ numberAt (w - l) s (at + l) → v * 256 + b ≡ numberAt (w - (l - 1)) s (at + (l - 1))
+pub more : (s : List ℕ) (at w l v b : ℕ) → 0 < l → l ≤ w → b ≡ getD s (at + (l - 1)) 0 → v ≡ numberAt (w - l) s (at + l) →
+    v * 256 + b ≡ numberAt (w - (l - 1)) s (at + (l - 1))
 unfolding numberAt
 more s at w l v b p h e f =
-    rw (one-more w l p h) (sum v b ∙ ap (λ (x : ℕ). x + 256 * v) e ∙ ap (λ (x : ℕ). getD s (at + (l - 1)) 0 + 256 * x) (f ∙ ap (λ (x : ℕ). numberAt (w - l) s x) (next at l p)))
+    rw (one-more w l p h) (sum v b ∙ ap (λ (x : ℕ). x + 256 * v) e
+    ∙ ap (λ (x : ℕ). getD s (at + (l - 1)) 0 + 256 * x) (f ∙ ap (λ (x : ℕ). numberAt (w - l) s x) (next at l p)))
   where
     next : (x y : ℕ) → 0 < y → x + y ≡ x + (y - 1) + 1
     next x y g = omega arith

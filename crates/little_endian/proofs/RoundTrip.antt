@@ -17,10 +17,12 @@ number-back (suc w) x before after h =
     let y = x % 256 in
     let rest = bytesOf w (x / 256) ++ after in
     ap (λ (z : ℕ). z + 256 * numberAt w (before ++ (y ∷ rest)) (length before + 1)) (getD-append-seam before y rest 0)
-    ∙ ap (λ (z : ℕ). y + 256 * z) (moved y rest ∙ number-back w (x / 256) (before ++ (y ∷ [])) after (smaller (sym (ap (λ (n : ℕ). 2 ^ n) (eight w) ∙ pow-add 2 (8 * w) 8))))
+    ∙ ap (λ (z : ℕ). y + 256 * z) (moved y rest
+    ∙ number-back w (x / 256) (before ++ (y ∷ [])) after (smaller (sym (ap (λ (n : ℕ). 2 ^ n) (eight w) ∙ pow-add 2 (8 * w) 8))))
     ∙ parts x
   where
-    moved : (y : ℕ) (rest : List ℕ) → numberAt w (before ++ (y ∷ rest)) (length before + 1) ≡ numberAt w ((before ++ (y ∷ [])) ++ rest) (length (before ++ (y ∷ [])))
+    moved : (y : ℕ) (rest : List ℕ) →
+        numberAt w (before ++ (y ∷ rest)) (length before + 1) ≡ numberAt w ((before ++ (y ∷ [])) ++ rest) (length (before ++ (y ∷ [])))
     moved y rest =
         ap (λ (l : List ℕ). numberAt w l (length before + 1)) (sym (append-assoc before (y ∷ []) rest))
         ∙ ap (λ (n : ℕ). numberAt w ((before ++ (y ∷ [])) ++ rest) n) (sym (length-append before (y ∷ [])))
@@ -49,8 +51,10 @@ table-back [] [] before after done = refl
 table-back (w ∷ ws) (v ∷ vs) before after (l ⟫ h) =
     let b = bytesOf w v in
     let rest = packed ws vs ++ after in
-    let flat : before ++ ((b ++ packed ws vs) ++ after) ≡ before ++ (b ++ rest) = ap (λ (l : List ℕ). before ++ l) (append-assoc b (packed ws vs) after) in
-    let next : length before + w ≡ length (before ++ b) = sym (length-append before b ∙ ap (λ (n : ℕ). length before + n) (bytes-length w v)) in
+    let flat : before ++ ((b ++ packed ws vs) ++ after) ≡ before ++ (b ++ rest) =
+    ap (λ (l : List ℕ). before ++ l) (append-assoc b (packed ws vs) after) in
+    let next : length before + w ≡ length (before ++ b) =
+    sym (length-append before b ∙ ap (λ (n : ℕ). length before + n) (bytes-length w v)) in
     ap (λ (l : List ℕ). numberAt w l (length before) ∷ decode ws l (length before + w)) flat
     ∙ ap (λ (n : ℕ). n ∷ decode ws (before ++ (b ++ rest)) (length before + w)) (number-back w v before rest l)
     ∙ ap (λ (l : List ℕ). v ∷ l)

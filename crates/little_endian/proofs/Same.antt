@@ -1,4 +1,5 @@
--- A number is read from its own bytes alone (`number-same`, by induction on its width), so it is the same in a part, in a rest and before more bytes.
+-- A number is read from its own bytes alone (`number-same`, by induction on its width), so it is the same in a part, in a rest and before
+-- more bytes.
 use mathlib.Core.Path.{_≡_, refl}
 use mathlib.Core.List.{List, _++_}
 use Prim.Native.Nat.{ℕ, zero, suc, _+_, _≤_, _<_}
@@ -11,7 +12,8 @@ pub number-same : (w at : ℕ) (s t : List ℕ) → ((i : ℕ) → at ≤ i → 
 unfolding numberAt
 number-same zero at s t h = refl
 number-same (suc w) at s t h =
-    let rest : numberAt w s (at + 1) ≡ numberAt w t (at + 1) = number-same w (at + 1) s t (λ (i : ℕ) l k. h i (omega arith) (omega arith)) in
+    let rest : numberAt w s (at + 1) ≡ numberAt w t (at + 1) =
+    number-same w (at + 1) s t (λ (i : ℕ) l k. h i (omega arith) (omega arith)) in
     rw (h at (omega arith) (omega arith), rest)
 
 pub number-take : (w n at : ℕ) (s : List ℕ) → at + w ≤ n → numberAt w (take n s) at ≡ numberAt w s at

@@ -1,4 +1,5 @@
--- Numbers by a table of widths: how many bytes they take (`packed-length`), where the next one stands (`total-at`), and one more stored (`put-more`).
+-- Numbers by a table of widths: how many bytes they take (`packed-length`), where the next one stands (`total-at`), and one more stored
+-- (`put-more`).
 use mathlib.Core.Path.{_≡_, refl, sym, ap, _∙_}
 use mathlib.Core.List.{List, [], _∷_, _++_}
 use Prim.Native.Nat.{ℕ, zero, suc, _+_, _≤_, _<_, _/_}
@@ -27,7 +28,8 @@ pub packed-length : (ws vs : List ℕ) → length ws ≤ length vs → length (p
 unfolding packed total
 packed-length [] vs h = refl
 packed-length (w ∷ ws) [] h = omega arith
-packed-length (w ∷ ws) (v ∷ vs) h = length-append (bytesOf w v) (packed ws vs) ∙ sum (length (bytesOf w v)) (length (packed ws vs)) (bytes-length w v) (packed-length ws vs (omega arith))
+packed-length (w ∷ ws) (v ∷ vs) h = length-append (bytesOf w v) (packed ws vs)
+    ∙ sum (length (bytesOf w v)) (length (packed ws vs)) (bytes-length w v) (packed-length ws vs (omega arith))
   where
     sum : (a b : ℕ) {n : ℕ} → a ≡ w → b ≡ n → a + b ≡ w + n
     sum a b e f = omega arith
@@ -39,7 +41,8 @@ run (x ∷ xs) ys s at =
     let e : at + suc (length xs) ≡ suc at + length xs = omega arith in
     rw e (run xs ys (set s at x) (suc at))
 
-pub put-more : (ws vs s t : List ℕ) (i at : ℕ) {d : List ℕ} → i < length ws → i < length vs → t ≡ sets s at (bytesOf (getD ws i 0) (getD vs i 0))
+pub put-more : (ws vs s t : List ℕ) (i at : ℕ) {d : List ℕ} → i < length ws → i < length vs →
+    t ≡ sets s at (bytesOf (getD ws i 0) (getD vs i 0))
     → sets s at (packed (drop i ws) (drop i vs)) ≡ d → sets t (at + getD ws i 0) (packed (drop (suc i) ws) (drop (suc i) vs)) ≡ d
 unfolding packed
 put-more ws vs s t i at h k f e =

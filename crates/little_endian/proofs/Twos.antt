@@ -1,4 +1,5 @@
--- Two's complement at 64 bits: a negative k is, inverted, -(k + 1), which is not negative; and its bits are a word (`signed-lt`), read as the number itself (`signed-back`).
+-- Two's complement at 64 bits: a negative k is, inverted, -(k + 1), which is not negative; and its bits are a word (`signed-lt`), read as
+-- the number itself (`signed-back`).
 use Prim.Native.Nat.{ℕ, _+_, _-_, _<_, _≤_, _^_, suc}
 use mathlib.Core.Path.{_≡_, refl, sym, ap, subst, _∙_}
 use mathlib.Core.Bool.{Bool, true, false, not, cond}

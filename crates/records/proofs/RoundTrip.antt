@@ -1,4 +1,5 @@
--- What is written of a record is read back, whatever follows it (`question-back`, `head-back`, `entry-back`): each is the law over its table, `table-back`.
+-- What is written of a record is read back, whatever follows it (`question-back`, `head-back`, `entry-back`): each is the law over its
+-- table, `table-back`.
 use mathlib.Core.Path.{_≡_, ap, _∙_}
 use mathlib.Core.List.{List, [], _∷_, _++_}
 use Prim.Native.Nat.{ℕ, _^_, _<_}
@@ -25,7 +26,8 @@ float-lt : (x : Float) → T (fits binary64 x) → bitsOf x < 2 ^ 64
 float-lt x h = toBits-lt binary64 x h
 
 -- a vector's three fields, before those that follow
-vector-lt : (v : Vector) {ws vs : List ℕ} → VectorHeld v → InRange ws vs → InRange (8 ∷ 8 ∷ 8 ∷ ws) (bitsOf (v .x) ∷ bitsOf (v .y) ∷ bitsOf (v .z) ∷ vs)
+vector-lt : (v : Vector) {ws vs : List ℕ} → VectorHeld v → InRange ws vs →
+    InRange (8 ∷ 8 ∷ 8 ∷ ws) (bitsOf (v .x) ∷ bitsOf (v .y) ∷ bitsOf (v .z) ∷ vs)
 vector-lt v h r = float-lt (v .x) (h .x) ⟫ float-lt (v .y) (h .y) ⟫ float-lt (v .z) (h .z) ⟫ r
 
 vector-back : (v : Vector) → VectorHeld v → record { x = bits (bitsOf (v .x)); y = bits (bitsOf (v .y)); z = bits (bitsOf (v .z)) } ≡ v
@@ -52,7 +54,8 @@ unfolding questionOf questionBytes questionFrom encode questionFields decode pac
 question-back q after h =
     ap questionFrom
     (table-back (4 ∷ 2 ∷ 4 ∷ 4 ∷ 2 ∷ 1 ∷ 1 ∷ 8 ∷ 8 ∷ 8 ∷ 8 ∷ 8 ∷ 8 ∷ 8 ∷ 8 ∷ []) _ [] after
-    (h .length ⟫ h .kind ⟫ h .job ⟫ h .revision ⟫ h .revolutions ⟫ h .way ⟫ h .spare ⟫ vector-lt (q .r1) (h .r1) (vector-lt (q .r2) (h .r2) (float-lt (q .mu) (h .mu) ⟫ float-lt (q .time) (h .time) ⟫ done))))
+    (h .length ⟫ h .kind ⟫ h .job ⟫ h .revision ⟫ h .revolutions ⟫ h .way ⟫ h .spare ⟫ vector-lt (q .r1) (h .r1)
+    (vector-lt (q .r2) (h .r2) (float-lt (q .mu) (h .mu) ⟫ float-lt (q .time) (h .time) ⟫ done))))
     ∙ simp (vector-back (q .r1) (h .r1), vector-back (q .r2) (h .r2), read-back (q .mu) (h .mu), read-back (q .time) (h .time))
 
 headFrom : List ℕ → Head
@@ -60,7 +63,8 @@ headFrom v = record { length = getD v 0 0; kind = getD v 1 0; job = getD v 2 0; 
 
 pub head-back : (h : Head) (after : List ℕ) → HeadHeld h → headOf (headBytes h ++ after) ≡ h
 unfolding headOf headBytes headFrom encode headFields decode packed
-head-back h after r = ap headFrom (table-back (4 ∷ 2 ∷ 4 ∷ 4 ∷ 2 ∷ []) _ [] after (r .length ⟫ r .kind ⟫ r .job ⟫ r .revision ⟫ r .number ⟫ done))
+head-back h after r =
+    ap headFrom (table-back (4 ∷ 2 ∷ 4 ∷ 4 ∷ 2 ∷ []) _ [] after (r .length ⟫ r .kind ⟫ r .job ⟫ r .revision ⟫ r .number ⟫ done))
 
 entryFrom : List ℕ → Entry
 entryFrom v = record {
@@ -75,5 +79,6 @@ pub entry-back : (e : Entry) (after : List ℕ) → EntryHeld e → entryOf (ent
 unfolding entryOf entryBytes entryFrom encode entryFields decode packed
 entry-back e after h =
     ap entryFrom
-    (table-back (8 ∷ 4 ∷ 4 ∷ 8 ∷ 8 ∷ 8 ∷ 8 ∷ 8 ∷ 8 ∷ []) _ [] after (signed-lt (e .lower) (h .lower) ⟫ h .halvings ⟫ h .chosen ⟫ vector-lt (e .v1) (h .v1) (vector-lt (e .v2) (h .v2) done)))
+    (table-back (8 ∷ 4 ∷ 4 ∷ 8 ∷ 8 ∷ 8 ∷ 8 ∷ 8 ∷ 8 ∷ []) _ [] after
+    (signed-lt (e .lower) (h .lower) ⟫ h .halvings ⟫ h .chosen ⟫ vector-lt (e .v1) (h .v1) (vector-lt (e .v2) (h .v2) done)))
     ∙ simp (signed-back (e .lower) (h .lower), vector-back (e .v1) (h .v1), vector-back (e .v2) (h .v2))

@@ -3,7 +3,8 @@ use mathlib.Core.Path.{_≡_}
 use mathlib.Core.List.{[], _∷_}
 use Prim.Native.Nat.{ℕ}
 use lib.ListN.{length, length-append}
-use Rattle.records.specs.Layout.{encode, questionFields, headFields, entryFields, conflictFields, questionSize, headSize, entrySize, refusalSize, conflictSize}
+use Rattle.records.specs.Layout.{encode, questionFields, headFields, entryFields, conflictFields, questionSize, headSize, entrySize}
+use Rattle.records.specs.Layout.{refusalSize, conflictSize}
 use Rattle.records.specs.Records.{questionBytes, headBytes, entryBytes, refusalHeadOf, refusalBytes, conflictBytes}
 use Rattle.records.specs.declared.Question.{Question}
 use Rattle.records.specs.declared.Head.{Head}

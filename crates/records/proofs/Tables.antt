@@ -1,9 +1,11 @@
--- The tables of specs/Layout.antt have no gap and no overlap: each field starts where the one before it ends, and the tables end at the records' sizes.
+-- The tables of specs/Layout.antt have no gap and no overlap: each field starts where the one before it ends, and the tables end at the
+-- records' sizes.
 use mathlib.Core.Path.{_≡_, refl}
 use mathlib.Core.Bool.{true}
 use mathlib.Core.List.{List, [], _∷_}
 use Prim.Native.Nat.{ℕ, _-_}
-use Rattle.records.specs.Layout.{LENGTH, questionFields, headFields, entryFields, conflictFields, questionLengths, questionSize, headSize, entrySize, conflictSize, tiles}
+use Rattle.records.specs.Layout.{LENGTH, questionFields, headFields, entryFields, conflictFields, questionLengths, questionSize}
+use Rattle.records.specs.Layout.{headSize, entrySize, conflictSize, tiles}
 
 pub question-tiles : tiles 0 questionFields questionSize ≡ true
 unfolding tiles questionFields

@@ -1,5 +1,6 @@
 -- The layout's numbers as the code's public constants have them: what those are held to. Definitions only.
-use Rattle.records.specs.Layout.{LENGTH, questionKind, answerKind, refusalKind, conflictKind, questionSize, questionLength, questionRoom, headSize, entrySize, mostEntries, answerRoom, conflictSize, firstNumber, lastNumber}
+use Rattle.records.specs.Layout.{LENGTH, questionKind, answerKind, refusalKind, conflictKind, questionSize, questionLength}
+use Rattle.records.specs.Layout.{questionRoom, headSize, entrySize, mostEntries, answerRoom, conflictSize, firstNumber, lastNumber}
 use Rattle.records.specs.declared.Constants.{Constants}
 
 abbrev pub layoutConstants : Constants

@@ -6,7 +6,10 @@ use lib.ListN.{length}
 use Rattle.float64.specs.Notation.{bits, bitsOf}
 use Rattle.float64.specs.declared.Vector.{Vector}
 use Rattle.little_endian.specs.Bytes.{signedBits, signedOf}
-use Rattle.records.specs.Layout.{Field, LENGTH, KIND, JOB, REVISION, REVOLUTIONS, WAY, SPARE, R1X, R1Y, R1Z, R2X, R2Y, R2Z, MU, TIME, NUMBER, LOWER, HALVINGS, CHOSEN, V1X, V1Y, V1Z, V2X, V2Y, V2Z, questionFields, headFields, entryFields, conflictFields, answerKind, refusalKind, conflictKind, refusalSize, answerSize, conflictSize, lengthFor, valueOf, encode}
+use Rattle.records.specs.Layout.{Field, LENGTH, KIND, JOB, REVISION, REVOLUTIONS, WAY, SPARE, R1X, R1Y, R1Z, R2X, R2Y, R2Z, MU}
+use Rattle.records.specs.Layout.{TIME, NUMBER, LOWER, HALVINGS, CHOSEN, V1X, V1Y, V1Z, V2X, V2Y, V2Z, questionFields, headFields}
+use Rattle.records.specs.Layout.{entryFields, conflictFields, answerKind, refusalKind, conflictKind, refusalSize, answerSize}
+use Rattle.records.specs.Layout.{conflictSize, lengthFor, valueOf, encode}
 use Rattle.records.specs.declared.Question.{Question}
 use Rattle.records.specs.declared.Head.{Head}
 use Rattle.records.specs.declared.Entry.{Entry}

@@ -1,4 +1,5 @@
--- `bytes::number_at` meets its contract. The loop's invariant: value is the number of the bytes that are passed, the highest ones, and has no more digits than they.
+-- `bytes::number_at` meets its contract. The loop's invariant: value is the number of the bytes that are passed, the highest ones, and
+-- has no more digits than they.
 -- The measure is the number of bytes that are left.
 use Prim.Native.Nat.{suc, _≤_, _<_, _+_, _-_, _*_, _^_}
 use mathlib.Core.Path.{_≡_, _∙_}
@@ -11,7 +12,8 @@ use Rattle.little_endian.proofs.bytes.number_at.Statement.{statement}
 use Rattle.little_endian.proofs.bytes.number_at.Tie as tie
 
 abbrev Inv-loop : tie.InvT-loop
-Inv-loop s at width value₀ left₀ value left = (left ≤ width) × (value ≡ numberAt (width - left) s (at + left)) × (value < 2 ^ (8 * (width - left)))
+Inv-loop s at width value₀ left₀ value left =
+    (left ≤ width) × (value ≡ numberAt (width - left) s (at + left)) × (value < 2 ^ (8 * (width - left)))
 
 abbrev μ-loop : tie.MeasureT-loop
 μ-loop s at width value₀ left₀ value left = left
@@ -36,7 +38,12 @@ add-value : tie.Need-add-value Inv-loop μ-loop
 add-value c =
     let l = c .before .before .loop in
     let a = c .before .before .before .before .args in
-    omega (arith, c .byte-at .ensures .1, within (a .width - l .left) (l .value) (omega (arith, c .before .before .before .before .pre, c .before .loop-test .taken)) (l .inv .2))
+    omega (
+      arith,
+      c .byte-at .ensures .1,
+      within (a .width - l .left) (l .value) (omega (arith, c .before .before .before .before .pre, c .before .loop-test .taken))
+          (l .inv .2),
+    )
 
 loop-less : tie.Need-loop-less Inv-loop μ-loop
 loop-less c = search needs

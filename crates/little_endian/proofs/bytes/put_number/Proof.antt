@@ -1,4 +1,5 @@
--- `bytes::put_number` meets its contract. The loop's invariant: storing what is left of the number from where the loop stands gives what the function is to store.
+-- `bytes::put_number` meets its contract. The loop's invariant: storing what is left of the number from where the loop stands gives what
+-- the function is to store.
 -- The measure is the number of bytes that are left.
 use Prim.Native.Nat.{suc, _≤_, _+_, _-_}
 use mathlib.Core.Path.{_≡_, refl}
@@ -11,7 +12,8 @@ use Rattle.little_endian.proofs.bytes.put_number.Statement.{statement}
 use Rattle.little_endian.proofs.bytes.put_number.Tie as tie
 
 abbrev Inv-loop : tie.InvT-loop
-Inv-loop out₀ at width value i₀ rest₀ out i rest = (i ≤ width) × (length out ≡ length out₀) × (sets out (at + i) (bytesOf (width - i) rest) ≡ sets out₀ at (bytesOf width value))
+Inv-loop out₀ at width value i₀ rest₀ out i rest =
+    (i ≤ width) × (length out ≡ length out₀) × (sets out (at + i) (bytesOf (width - i) rest) ≡ sets out₀ at (bytesOf width value))
 
 abbrev μ-loop : tie.MeasureT-loop
 μ-loop out₀ at width value i₀ rest₀ out i rest = width - i

@@ -1,4 +1,5 @@
--- `tables::fits` meets its contract. The loop's invariant: the room that is left has to do for the widths that are left, as the whole room has for all.
+-- `tables::fits` meets its contract. The loop's invariant: the room that is left has to do for the widths that are left, as the whole
+-- room has for all.
 -- The measure is the number of widths that are left.
 use Prim.Native.Nat.{_≤_, _<_, _+_, _-_}
 use mathlib.Core.Path.{_≡_, sym}
@@ -7,16 +8,16 @@ use native.Mathlib.Omega.{arith}
 use borrow.Author.Needs.{needs}
 use borrow.Author.Tests.{le-leb, lt-leb}
 use lib.ListN.{length, drop}
-use Rattle.little_endian.specs.Tables.{total}
+use Rattle.little_endian.specs.Tables.{places, total}
 use Rattle.little_endian.proofs.Tabled.{total-at, total-past}
 use Rattle.little_endian.proofs.tables.fits.Statement.{statement}
 use Rattle.little_endian.proofs.tables.fits.Tie as tie
 
 abbrev Inv-loop : tie.InvT-loop
-Inv-loop room widths left₀ i₀ left i = (i ≤ 18) × (left + total widths ≡ room + total (drop i widths))
+Inv-loop room widths left₀ i₀ left i = (i ≤ places) × (left + total widths ≡ room + total (drop i widths))
 
 abbrev μ-loop : tie.MeasureT-loop
-μ-loop room widths left₀ i₀ left i = 18 - i
+μ-loop room widths left₀ i₀ left i = places - i
 
 loop-holds : tie.Need-loop-holds Inv-loop μ-loop
 loop-holds c = (omega arith, omega arith)
@@ -31,7 +32,7 @@ returns : tie.Need-returns Inv-loop μ-loop
 returns c =
     let s = c .before .before .before in
     let l = c .before .before .loop in
-    let long : length (s .args .t1) ≡ 18 = search (needs, s .good) in
+    let long : length (s .args .t1) ≡ places = search (needs, s .good) in
     sym (lt-leb (total (s .args .t1)) (s .args .room) (omega (arith, total-at (s .args .t1) (l .i) (omega arith), l .inv .1)))
 
 add-i : tie.Need-add-i Inv-loop μ-loop
@@ -44,14 +45,14 @@ loop-again : tie.Need-loop-again Inv-loop μ-loop
 loop-again c =
     let s = c .before .before .before in
     let l = c .before .before .loop in
-    let long : length (s .args .t1) ≡ 18 = search (needs, s .good) in
+    let long : length (s .args .t1) ≡ places = search (needs, s .good) in
     (omega arith, rw add-one (omega (arith, total-at (s .args .t1) (l .i) (omega arith), l .inv .1)))
 
 returns-2 : tie.Need-returns-2 Inv-loop μ-loop
 returns-2 c =
     let s = c .before .before in
     let l = c .before .loop in
-    let long : length (s .args .t1) ≡ 18 = search (needs, s .good) in
+    let long : length (s .args .t1) ≡ places = search (needs, s .good) in
     sym (le-leb (total (s .args .t1)) (s .args .room) (omega (arith, total-past (s .args .t1) (l .i) (omega arith), l .inv .1)))
 
 pub fits-spec : {M : Type 1} → statement M

@@ -17,10 +17,12 @@ rest : (c : tie.Else1) → ltZ (c .before .args .k) (pos 0) ≡ false
 rest c = rw (toZ-ofZ w64 (c .before .args .k) (c .before .fits .k)) at (c .if1 .left)
 
 cast-result : tie.Need-cast-result
-cast-result c = rw (inverted (c .before .args .k) (c .before .fits .k) (below c)) (tt, record { fits = omega (arith, c .before .fits .k .sfits) })
+cast-result c =
+    rw (inverted (c .before .args .k) (c .before .fits .k) (below c)) (tt, record { fits = omega (arith, c .before .fits .k .sfits) })
 
 cast-result-2 : tie.Need-cast-result-2
-cast-result-2 c = rw (toZ-ofZ w64 (c .before .args .k) (c .before .fits .k)) (cast-from-zero (c .before .args .k) (c .before .fits .k) (rest c))
+cast-result-2 c =
+    rw (toZ-ofZ w64 (c .before .args .k) (c .before .fits .k)) (cast-from-zero (c .before .args .k) (c .before .fits .k) (rest c))
 
 returns : tie.Need-returns
 returns c = rw (inverted (c .before .args .k) (c .before .fits .k) (below c)) (bits-below (c .before .args .k) (below c))

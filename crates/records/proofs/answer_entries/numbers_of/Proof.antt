@@ -36,8 +36,24 @@ to-bits-requires-6 c κs = tt
 
 returns : tie.Need-returns
 returns c =
-    let f : SFits w64 (c .before .before .before .before .before .before .before .before .before .before .args .e .lower) = search (needs, c .before .before .before .before .before .before .before .before .before .struct-told .given) in
-    simp (c .to-bits6 .ensures, c .before .to-bits5 .ensures, c .before .before .to-bits4 .ensures, c .before .before .before .to-bits3 .ensures, c .before .before .before .before .to-bits2 .ensures, c .before .before .before .before .before .to-bits .ensures, c .before .before .before .before .before .before .before .before .signed-bits .ensures, toZ-ofZ f)
+    let v2y = c .before in
+    let v2x = v2y .before in
+    let v1z = v2x .before in
+    let v1y = v1z .before in
+    let v1x = v1y .before in
+    let lower = v1x .before .before .before in
+    let start = lower .before in
+    let f : SFits w64 (start .before .args .e .lower) = search (needs, start .struct-told .given) in
+    simp (
+      c .to-bits6 .ensures,
+      v2y .to-bits5 .ensures,
+      v2x .to-bits4 .ensures,
+      v1z .to-bits3 .ensures,
+      v1y .to-bits2 .ensures,
+      v1x .to-bits .ensures,
+      lower .signed-bits .ensures,
+      toZ-ofZ f,
+    )
 
 pub numbers-of-spec : {M : Type 1} → statement M
 numbers-of-spec =

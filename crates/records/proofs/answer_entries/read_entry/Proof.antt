@@ -29,8 +29,21 @@ vector-at-requires-2 c κs = omega arith
 returns : tie.Need-returns
 unfolding entryOf
 returns c =
-    let f : SFits w64 (c .before .before .before .before .signed-of .result) = search needs in
-    rw (toZ-ofZ f) (simp (c .vector-at2 .ensures, c .before .vector-at .ensures, c .before .before .u32-at2 .ensures, c .before .before .before .u32-at .ensures, c .before .before .before .before .signed-of .ensures, c .before .before .before .before .before .word-at .ensures))
+    let v1 = c .before in
+    let chosen = v1 .before in
+    let halvings = chosen .before in
+    let lower = halvings .before in
+    let word = lower .before in
+    let f : SFits w64 (lower .signed-of .result) = search needs in
+    rw (toZ-ofZ f)
+    (simp (
+      c .vector-at2 .ensures,
+      v1 .vector-at .ensures,
+      chosen .u32-at2 .ensures,
+      halvings .u32-at .ensures,
+      lower .signed-of .ensures,
+      word .word-at .ensures,
+    ))
 
 pub read-entry-spec : {M : Type 1} → statement M
 read-entry-spec =

@@ -20,7 +20,12 @@ u16-at-requires-2 c κs = tt
 
 returns : tie.Need-returns
 unfolding headOf
-returns c = simp (c .u16-at2 .ensures, c .before .u32-at3 .ensures, c .before .before .u32-at2 .ensures, c .before .before .before .u16-at .ensures, c .before .before .before .before .u32-at .ensures)
+returns c =
+    let revision = c .before in
+    let job = revision .before in
+    let kind = job .before in
+    let length = kind .before in
+    simp (c .u16-at2 .ensures, revision .u32-at3 .ensures, job .u32-at2 .ensures, kind .u16-at .ensures, length .u32-at .ensures)
 
 pub read-head-spec : {M : Type 1} → statement M
 read-head-spec =

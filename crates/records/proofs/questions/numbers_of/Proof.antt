@@ -49,7 +49,24 @@ to-bits-requires-8 : tie.Need-to-bits-requires-8
 to-bits-requires-8 c κs = tt
 
 returns : tie.Need-returns
-returns c = simp (c .to-bits8 .ensures, c .before .to-bits7 .ensures, c .before .before .to-bits6 .ensures, c .before .before .before .to-bits5 .ensures, c .before .before .before .before .to-bits4 .ensures, c .before .before .before .before .before .to-bits3 .ensures, c .before .before .before .before .before .before .to-bits2 .ensures, c .before .before .before .before .before .before .before .to-bits .ensures)
+returns c =
+    let mu = c .before in
+    let r2z = mu .before in
+    let r2y = r2z .before in
+    let r2x = r2y .before in
+    let r1z = r2x .before in
+    let r1y = r1z .before in
+    let r1x = r1y .before in
+    simp (
+      c .to-bits8 .ensures,
+      mu .to-bits7 .ensures,
+      r2z .to-bits6 .ensures,
+      r2y .to-bits5 .ensures,
+      r2x .to-bits4 .ensures,
+      r1z .to-bits3 .ensures,
+      r1y .to-bits2 .ensures,
+      r1x .to-bits .ensures,
+    )
 
 pub numbers-of-spec : {M : Type 1} → statement M
 numbers-of-spec =

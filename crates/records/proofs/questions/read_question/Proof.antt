@@ -40,8 +40,29 @@ float-at-requires-2 c κs = tt
 returns : tie.Need-returns
 unfolding questionOf
 returns c =
-    simp
-    (c .float-at2 .ensures, c .before .float-at .ensures, c .before .before .vector-at2 .ensures, c .before .before .before .vector-at .ensures, c .before .before .before .before .u8-at2 .ensures, c .before .before .before .before .before .u8-at .ensures, c .before .before .before .before .before .before .u16-at2 .ensures, c .before .before .before .before .before .before .before .u32-at3 .ensures, c .before .before .before .before .before .before .before .before .u32-at2 .ensures, c .before .before .before .before .before .before .before .before .before .u16-at .ensures, c .before .before .before .before .before .before .before .before .before .before .u32-at .ensures)
+    let mu = c .before in
+    let r2 = mu .before in
+    let r1 = r2 .before in
+    let spare = r1 .before in
+    let way = spare .before in
+    let revolutions = way .before in
+    let revision = revolutions .before in
+    let job = revision .before in
+    let kind = job .before in
+    let length = kind .before in
+    simp (
+      c .float-at2 .ensures,
+      mu .float-at .ensures,
+      r2 .vector-at2 .ensures,
+      r1 .vector-at .ensures,
+      spare .u8-at2 .ensures,
+      way .u8-at .ensures,
+      revolutions .u16-at2 .ensures,
+      revision .u32-at3 .ensures,
+      job .u32-at2 .ensures,
+      kind .u16-at .ensures,
+      length .u32-at .ensures,
+    )
 
 pub read-question-spec : {M : Type 1} → statement M
 read-question-spec =
