@@ -1,4 +1,5 @@
--- The cases of `square_root`: a zero, a positive number, and what is refused. A positive number's bits lie above zero's and below infinity's (`positive-bits`).
+-- The cases of `square_root`: a zero, a positive number, and what is refused. A positive number's bits lie above zero's
+-- and below infinity's (`positive-bits`).
 use mathlib.Core.Path.{_≡_, refl, sym, ap, _∙_, subst}
 use Prim.Native.Nat.{ℕ, zero, suc, _+_, _*_, _/_, _%_, _^_, _≤_, _<_}
 use native.Mathlib.Nat.{lt-of-not-le}
@@ -16,7 +17,8 @@ use Rattle.float64.specs.Internals.{unitsAt, unitsOfBits}
 use Rattle.float64.specs.declared.Root.{Root}
 use Rattle.float64.specs.declared.Root.the-variants.{Value, Refused}
 use Rattle.float64.proofs.Comparisons.{zero-is-zero, zero-not-above, some-not-zero, some-above}
-use Rattle.float64.proofs.Patterns.{rootOf-positive, rootOf-negative, ofBits-is, clear, fields-units, units-pos, has-units, unitsOfBits-pos}
+use Rattle.float64.proofs.Patterns.{rootOf-positive, rootOf-negative, ofBits-is, clear, fields-units}
+use Rattle.float64.proofs.Patterns.{units-pos, has-units, unitsOfBits-pos}
 
 -- ---- a zero
 pub of-zero : (x : Float) → (x ≈ 0F) ≡ true → Value x ≡ rootOf x
@@ -91,10 +93,13 @@ refused-bits b lo ne hi = by (ltb b (2 ^ 63)) (ltb→lt b (2 ^ 63)) (nltb→le b
     some y a f c = omega arith
 
     by : (t : Bool) → (T t → b < 2 ^ 63) → (T (not t) → 2 ^ 63 ≤ b) → rootOf (ofBits binary64 b) ≡ Refused
-    by true l g = ap rootOf (clear b (l tt)) ∙ ap (λ (x : ℕ). rootOf (ofFields binary64 false x (b % 2 ^ 52))) (field b lo (l tt)) ∙ at-ones false (b % 2 ^ 52)
+    by true l g =
+        ap rootOf (clear b (l tt)) ∙ ap (λ (x : ℕ). rootOf (ofFields binary64 false x (b % 2 ^ 52))) (field b lo (l tt))
+        ∙ at-ones false (b % 2 ^ 52)
     by false l g =
         ap rootOf (ofBits-is b)
-        ∙ ap (λ (s : Bool). rootOf (ofFields binary64 s (b % 2 ^ 63 / 2 ^ 52) (b % 2 ^ 52))) (is-true (leb (2 ^ 63) b) (le→leb (2 ^ 63) b (g tt)))
+        ∙ ap (λ (s : Bool). rootOf (ofFields binary64 s (b % 2 ^ 63 / 2 ^ 52) (b % 2 ^ 52)))
+        (is-true (leb (2 ^ 63) b) (le→leb (2 ^ 63) b (g tt)))
         ∙ negative-fields (b % 2 ^ 63 / 2 ^ 52) (b % 2 ^ 52) (field-lt b) (some b (g tt) ne hi)
 
 pub positive-bits : (x : Float) → Positive x → T (fits binary64 x) → (0 < toBits binary64 x) × (toBits binary64 x < 0x7FF0_0000_0000_0000)
@@ -103,13 +108,16 @@ positive-bits x l h =
     let back = ofBits-toBits binary64 x h in
     let l′ = subst Positive (sym back) l in (
       lt-of-not-le (λ (z : b ≤ 0). not-zeros b (inl (none b z)) l′),
-      lt-of-not-le (λ (g : 0x7FF0_0000_0000_0000 ≤ b). not-refused (ofBits binary64 b) l′ (refused-bits b g (λ (e : b ≡ 2 ^ 63). not-zeros b (inr e) l′) (toBits-lt binary64 x h))),
+      lt-of-not-le (λ (g : 0x7FF0_0000_0000_0000 ≤ b). not-refused (ofBits binary64 b) l′
+          (refused-bits b g (λ (e : b ≡ 2 ^ 63). not-zeros b (inr e) l′) (toBits-lt binary64 x h))),
     )
   where
     none : (y : ℕ) → y ≤ 0 → y ≡ 0
     none y k = omega arith
 
-pub of-positive : (x r : Float) → T (fits binary64 x) → 0 < toBits binary64 x → toBits binary64 x < 0x7FF0_0000_0000_0000 → r ≡ rootOfUnits (unitsOfBits (toBits binary64 x)) → Value r ≡ rootOf x
+pub of-positive : (x r : Float) → T (fits binary64 x) → 0 < toBits binary64 x → toBits binary64 x < 0x7FF0_0000_0000_0000
+    → r ≡ rootOfUnits (unitsOfBits (toBits binary64 x)) → Value r ≡ rootOf x
 of-positive x r h p l e =
     let b = toBits binary64 x in
-    ap Value e ∙ sym (rootOf-positive (ofBits binary64 b) (unitsOfBits b) (unitsOfBits-pos b p) (has-units b l)) ∙ ap rootOf (ofBits-toBits binary64 x h)
+    ap Value e ∙ sym (rootOf-positive (ofBits binary64 b) (unitsOfBits b) (unitsOfBits-pos b p) (has-units b l))
+    ∙ ap rootOf (ofBits-toBits binary64 x h)

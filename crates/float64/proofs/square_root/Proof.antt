@@ -21,7 +21,8 @@ is-finite-requires : tie.Need-is-finite-requires
 is-finite-requires c κs = search needs
 
 -- the second test is the definition's, by what `is_finite` ensures of its answer
-test-is : (c : tie.After-is-finite) → (0F ≺ c .before .before .args .x) && finiteOf (c .before .before .args .x) ≡ (0F ≺ c .before .before .args .x) && c .is-finite .result
+test-is : (c : tie.After-is-finite)
+    → (0F ≺ c .before .before .args .x) && finiteOf (c .before .before .args .x) ≡ (0F ≺ c .before .before .args .x) && c .is-finite .result
 test-is c = ap (λ (b : Bool). (0F ≺ c .before .before .args .x) && b) (sym (c .is-finite .ensures))
 
 is-positive : (c : tie.Then2) → Positive (c .before .before .before .args .x)
