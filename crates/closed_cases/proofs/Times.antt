@@ -8,8 +8,8 @@ use Rattle.float64.specs.Notation.{bits}
 use Rattle.float64.specs.Value.{magnitudeOf, finiteOf}
 use Rattle.float64.specs.Root.{rootOf}
 use Rattle.closed_cases.specs.Given.{withLambda}
-use Rattle.hypergeometric.specs.Steps.{yOf, etaOf, c1Of, nextC, halvedOf, ratioOf, seriesFrom, seriesOf, s4Of, backOf, climbedOf}
-use Rattle.flight_time.specs.Steps.{outsideRange, xOf, uOf, directOf, revolvedOf}
+use Rattle.hypergeometric.specs.Steps.{yOf, etaOf, c1Of, nextC, halfAnglesOf, ratioOf, seriesFrom, seriesOf, s4Of, backOf, gOf}
+use Rattle.flight_time.specs.Steps.{outsideRange, xOf, uOf, directOf, withRevolutions}
 use Rattle.flight_time.specs.Time.{timeOf}
 use Rattle.flight_time.specs.declared.Place.{Place}
 use Rattle.flight_time.specs.declared.Place.the-variants.{Timed, Void}
@@ -55,7 +55,7 @@ rows =
     ∷ []
 
 pub each-row-holds : map (λ (r : Row). timeOf (withLambda (r .L)) (r .k) (r .m)) rows ≡ map (λ (r : Row). r .place) rows
-unfolding rows row withLambda timeOf outsideRange xOf uOf yOf etaOf c1Of nextC halvedOf ratioOf seriesFrom seriesOf s4Of backOf climbedOf directOf revolvedOf magnitudeOf finiteOf rootOf add sub mul div neg lt eq ofBits ofInt
+unfolding rows row withLambda timeOf outsideRange xOf uOf yOf etaOf c1Of nextC halfAnglesOf ratioOf seriesFrom seriesOf s4Of backOf gOf directOf withRevolutions magnitudeOf finiteOf rootOf add sub mul div neg lt eq ofBits ofInt
 each-row-holds = refl
 
 -- at the ends themselves, and with sixteen revolutions, there is a time
@@ -64,5 +64,5 @@ timed (Timed t) = 1
 timed Void = 0
 
 pub ends-are-timed : map (λ (r : Row). timed (timeOf (withLambda (r .L)) (r .k) (r .m))) (row 0 low 0 Void ∷ row 0 (pos (2 ^ 34)) 0 Void ∷ row 0 (pos (2 ^ 32 - 2 ^ 20)) 16 Void ∷ row 0 low 16 Void ∷ []) ≡ 1 ∷ 1 ∷ 1 ∷ 1 ∷ []
-unfolding row withLambda timeOf outsideRange xOf uOf yOf etaOf c1Of nextC halvedOf ratioOf seriesFrom seriesOf s4Of backOf climbedOf directOf revolvedOf magnitudeOf finiteOf rootOf add sub mul div neg lt eq ofBits ofInt
+unfolding row withLambda timeOf outsideRange xOf uOf yOf etaOf c1Of nextC halfAnglesOf ratioOf seriesFrom seriesOf s4Of backOf gOf directOf withRevolutions magnitudeOf finiteOf rootOf add sub mul div neg lt eq ofBits ofInt
 ends-are-timed = refl

@@ -17,14 +17,14 @@ use Rattle.entrance.specs.Judge.{checks, longWay, firstOf, judgeOf}
 use Rattle.entrance.proofs.Table.{accepted-exactly, accepted-when}
 use Rattle.closed_cases.specs.Given.{ONE, flat, asked, withLambda}
 use Rattle.closed_cases.specs.Worked.{Row, resultOf, like, rows}
-use Rattle.hypergeometric.specs.Steps.{yOf, etaOf, c1Of, nextC, halvedOf, ratioOf, seriesFrom, seriesOf, s4Of, backOf, climbedOf}
-use Rattle.flight_time.specs.Steps.{outsideRange, xOf, uOf, directOf, revolvedOf}
+use Rattle.hypergeometric.specs.Steps.{yOf, etaOf, c1Of, nextC, halfAnglesOf, ratioOf, seriesFrom, seriesOf, s4Of, backOf, gOf}
+use Rattle.flight_time.specs.Steps.{outsideRange, xOf, uOf, directOf, withRevolutions}
 use Rattle.flight_time.specs.Time.{timeOf}
 use Rattle.solution.specs.Solve.{solveOf, longest}
 use Rattle.demand.specs.Demand.{Past}
 
 pub each-row-holds : map (λ (r : Row). resultOf (r .case)) rows ≡ map (λ (r : Row). r .result) rows
-unfolding rows resultOf withLambda like asked solveOf judgeOf checks firstOf malformed farOff positionFar positionsFar muOutside timeOutside manyRevolutions smallBuffer outsideOf radiusOutside noPlane shortChord flatTriangle semiperimeterOf atLeastZero lambdaOf triangleOf shapeOf normSquared difference cross orNan rootOrNan questionOf questionBytes encode questionFields bytesOf numberAt rootOf magnitudeOf finiteOf timeOf outsideRange xOf uOf yOf etaOf c1Of nextC halvedOf ratioOf seriesFrom seriesOf s4Of backOf climbedOf directOf revolvedOf add sub mul div round units odd size neg lt le eq ofBits ofInt toBits
+unfolding rows resultOf withLambda like asked solveOf judgeOf checks firstOf malformed farOff positionFar positionsFar muOutside timeOutside manyRevolutions smallBuffer outsideOf radiusOutside noPlane shortChord flatTriangle semiperimeterOf atLeastZero lambdaOf triangleOf shapeOf normSquared difference cross orNan rootOrNan questionOf questionBytes encode questionFields bytesOf numberAt rootOf magnitudeOf finiteOf timeOf outsideRange xOf uOf yOf etaOf c1Of nextC halfAnglesOf ratioOf seriesFrom seriesOf s4Of backOf gOf directOf withRevolutions add sub mul div round units odd size neg lt le eq ofBits ofInt toBits
 each-row-holds = refl
 
 -- a question past the entrance checks: 01's worked one, so that what is shown of such questions is shown of some

@@ -7,14 +7,14 @@ use lib.IntN.{ℤ}
 use lib.Ieee.{Float}
 use Rattle.float64.specs.Value.{finiteOf}
 use Rattle.geometry.specs.declared.Triangle.{Triangle}
-use Rattle.hypergeometric.specs.Steps.{halvedOf, climbedOf}
-use Rattle.flight_time.specs.Steps.{outsideRange, xOf, uOf, directOf, revolvedOf}
-use Rattle.flight_time.specs.Time.{voidIf, afterStage, afterHalved, timeOf}
-use Rattle.hypergeometric.specs.declared.stages.Angles.{Angles}
-use Rattle.hypergeometric.specs.declared.stages.Stage.{Stage}
-use Rattle.hypergeometric.specs.declared.stages.Stage.the-variants.{Number, Void}
-use Rattle.hypergeometric.specs.declared.stages.Halved.{Halved}
-use Rattle.hypergeometric.specs.declared.stages.Halved.the-variants.{Thrice, Void}
+use Rattle.hypergeometric.specs.Steps.{halfAnglesOf, gOf}
+use Rattle.flight_time.specs.Steps.{outsideRange, xOf, uOf, directOf, withRevolutions}
+use Rattle.flight_time.specs.Time.{voidIf, afterStep, afterAngles, timeOf}
+use Rattle.hypergeometric.specs.declared.results.Angles.{Angles}
+use Rattle.hypergeometric.specs.declared.results.StepValue.{StepValue}
+use Rattle.hypergeometric.specs.declared.results.StepValue.the-variants.{Number, Void}
+use Rattle.hypergeometric.specs.declared.results.HalfAngles.{HalfAngles}
+use Rattle.hypergeometric.specs.declared.results.HalfAngles.the-variants.{Known, Void}
 use Rattle.flight_time.specs.declared.Place.{Place}
 use Rattle.flight_time.specs.declared.Place.the-variants.{Timed, Void}
 
@@ -36,12 +36,12 @@ if-not : (b : Bool) (p : Place) → Finite p → Finite (voidIf b p)
 if-not true p f = no-time
 if-not false p f = f
 
-by-stage : (s : Stage) (next : Float → Place) → ((x : Float) → Finite (next x)) → Finite (afterStage s next)
+by-stage : (s : StepValue) (next : Float → Place) → ((x : Float) → Finite (next x)) → Finite (afterStep s next)
 by-stage (Number x) next f = f x
 by-stage Void next f = no-time
 
-by-halved : (h : Halved) (next : Angles → Place) → ((v : Angles) → Finite (next v)) → Finite (afterHalved h next)
-by-halved (Thrice v) next f = f v
+by-halved : (h : HalfAngles) (next : Angles → Place) → ((v : Angles) → Finite (next v)) → Finite (afterAngles h next)
+by-halved (Known v) next f = f v
 by-halved Void next f = no-time
 
 pub timed-finite : (t : Triangle) (k : ℤ) (m : ℕ) (time : Float) → timeOf t k m ≡ Timed time → finiteOf time ≡ true
@@ -49,7 +49,7 @@ unfolding timeOf
 timed-finite t k m =
     let u = uOf (xOf k) in
     if-not (outsideRange (t .lambda) k m) _
-    (by-halved (halvedOf (t .lambda) (xOf k) u) _ (λ v.
-    by-stage (climbedOf v) _ (λ g.
-    by-stage (revolvedOf (directOf (t .lambda) (v .eta) g) u m) _ (λ x.
+    (by-halved (halfAnglesOf (t .lambda) (xOf k) u) _ (λ v.
+    by-stage (gOf v) _ (λ g.
+    by-stage (withRevolutions (directOf (t .lambda) (v .eta) g) u m) _ (λ x.
     last-test x (finiteOf x) refl))))

@@ -7,9 +7,9 @@ ghost use Rattle.flight_time.specs.Time.{timeOf, placeBits};
 mod revolutions;
 
 use geometry::Triangle;
-use hypergeometric::Halved;
-use hypergeometric::Stage;
-use revolutions::revolved;
+use hypergeometric::HalfAngles;
+use hypergeometric::StepValue;
+use revolutions::with_revolutions;
 
 // A place has a time, a finite number, or is void.
 pub enum Place {
@@ -21,7 +21,7 @@ impl Place {
     // The number of bits 400921FB54442D18.
     pub const PI: f64 = 3.141592653589793;
 
-    // How many k make a step of 1 in x, and how many lie between neighbouring stations.
+    // How many k make a step of 1 in x, 2^32, and how many lie between neighbouring stations, 2^20.
     pub const UNIT: f64 = 4294967296.0;
 
     pub const STATION_SPACING: i64 = 1048576;
@@ -36,22 +36,23 @@ impl Place {
     pub const MOST_REVOLUTIONS: u16 = 16;
 }
 
-pub fn time_at(triangle: Triangle, k: i64, m: u16) -> Place
-    ensures { λ r. ⌜ r ≡ timeOf triangle k m ⌝ }
+// The time at the place k of a triangle, with a number of whole revolutions (M in 01).
+pub fn time_at(triangle: Triangle, k: i64, revolutions: u16) -> Place
+    ensures { λ r. ⌜ r ≡ timeOf triangle k revolutions ⌝ }
 {
     let l = triangle.lambda;
-    if is_outside(l, k, m) {
+    if is_outside(l, k, revolutions) {
         return Place::Void;
     }
     let x = x_at(k);
     let u = u_at(x);
-    let Halved::Thrice(v) = hypergeometric::halved(l, x, u) else {
+    let HalfAngles::Known(angles) = hypergeometric::half_angles(l, x, u) else {
         return Place::Void;
     };
-    let Stage::Number(g) = hypergeometric::climbed(v) else {
+    let StepValue::Number(g) = hypergeometric::g_at(angles) else {
         return Place::Void;
     };
-    let Stage::Number(time) = revolved(direct(l, v.eta, g), u, m) else {
+    let StepValue::Number(time) = with_revolutions(direct(l, angles.eta, g), u, revolutions) else {
         return Place::Void;
     };
     if float64::is_finite(time) {
@@ -72,13 +73,13 @@ pub fn place_bits(place: Place) -> u64
 }
 
 // Step 1: whether the place is void by its range.
-fn is_outside(l: f64, k: i64, m: u16) -> bool
-    ensures { λ r. ⌜ r ≡ outsideRange l k m ⌝ }
+fn is_outside(l: f64, k: i64, revolutions: u16) -> bool
+    ensures { λ r. ⌜ r ≡ outsideRange l k revolutions ⌝ }
 {
     !(float64::magnitude(l) < 1.0)
-        | ((m > Place::MOST_REVOLUTIONS)
+        | ((revolutions > Place::MOST_REVOLUTIONS)
             | ((k < Place::LOWEST)
-                | ((k > Place::HIGHEST) | ((m >= 1) & (k > Place::HIGHEST_REVOLVING)))))
+                | ((k > Place::HIGHEST) | ((revolutions >= 1) & (k > Place::HIGHEST_REVOLVING)))))
 }
 
 pub fn x_at(k: i64) -> f64

@@ -1,16 +1,16 @@
 // The hypergeometric function of the time equation (01, Time at one place, steps 2 to 5): the angle
 // halved three times, the series there, and the way back.
 ghost use mathlib.Core.Path.{_≡_};
-ghost use Rattle.hypergeometric.specs.Steps.{yOf, etaOf, c1Of, nextC, halvedOf, s4Of, backOf, climbedOf};
+ghost use Rattle.hypergeometric.specs.Steps.{yOf, etaOf, c1Of, nextC, halfAnglesOf, s4Of, backOf, gOf};
 
 mod series;
-mod stages;
+mod results;
 
 use float64::Root;
 use series::series;
-pub use stages::Angles;
-pub use stages::Halved;
-pub use stages::Stage;
+pub use results::Angles;
+pub use results::HalfAngles;
+pub use results::StepValue;
 
 // The root y of 1 - L^2 u.
 pub fn y_at(l: f64, u: f64) -> Root
@@ -38,26 +38,26 @@ fn next_c(w: f64) -> f64
 }
 
 // Steps 2 and 3: the angle halved three times, at the place x with u = 1 - x^2.
-pub fn halved(l: f64, x: f64, u: f64) -> Halved
-    ensures { λ r. ⌜ r ≡ halvedOf l x u ⌝ }
+pub fn half_angles(l: f64, x: f64, u: f64) -> HalfAngles
+    ensures { λ r. ⌜ r ≡ halfAnglesOf l x u ⌝ }
 {
     let Root::Value(y) = y_at(l, u) else {
-        return Halved::Void;
+        return HalfAngles::Void;
     };
     let eta = eta_at(l, x, y);
     let c1 = first_c(l, x, eta);
     let Root::Value(w1) = float64::square_root(c1) else {
-        return Halved::Void;
+        return HalfAngles::Void;
     };
     let c2 = next_c(w1);
     let Root::Value(w2) = float64::square_root(c2) else {
-        return Halved::Void;
+        return HalfAngles::Void;
     };
     let c3 = next_c(w2);
     let Root::Value(w3) = float64::square_root(c3) else {
-        return Halved::Void;
+        return HalfAngles::Void;
     };
-    Halved::Thrice(Angles {
+    HalfAngles::Known(Angles {
         eta,
         c1,
         w1,
@@ -76,29 +76,29 @@ fn fourth_s(w3: f64) -> f64
 }
 
 // One halving undone.
-fn back(g: f64, w: f64, c: f64) -> Stage
+fn back(g: f64, w: f64, c: f64) -> StepValue
     ensures { λ r. ⌜ r ≡ backOf g w c ⌝ }
 {
     let divisor = 4.0 * c;
     if w == 0.0 {
-        return Stage::Void;
+        return StepValue::Void;
     }
     if divisor == 0.0 {
-        return Stage::Void;
+        return StepValue::Void;
     }
-    Stage::Number((3.0 + g / w) / divisor)
+    StepValue::Number((3.0 + g / w) / divisor)
 }
 
-// Steps 4 and 5: the series, and the three halvings undone.
-pub fn climbed(v: Angles) -> Stage
-    ensures { λ r. ⌜ r ≡ climbedOf v ⌝ }
+// Steps 4 and 5: G, that is the series, and the three halvings undone.
+pub fn g_at(angles: Angles) -> StepValue
+    ensures { λ r. ⌜ r ≡ gOf angles ⌝ }
 {
-    let g = series(fourth_s(v.w3));
-    let Stage::Number(g3) = back(g, v.w3, v.c3) else {
-        return Stage::Void;
+    let g = series(fourth_s(angles.w3));
+    let StepValue::Number(g3) = back(g, angles.w3, angles.c3) else {
+        return StepValue::Void;
     };
-    let Stage::Number(g2) = back(g3, v.w2, v.c2) else {
-        return Stage::Void;
+    let StepValue::Number(g2) = back(g3, angles.w2, angles.c2) else {
+        return StepValue::Void;
     };
-    back(g2, v.w1, v.c1)
+    back(g2, angles.w1, angles.c1)
 }

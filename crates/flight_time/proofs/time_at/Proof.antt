@@ -1,18 +1,71 @@
 -- `time_at` meets its contract: each return is what its calls ensure, up to the step that was void.
+use Prim.Native.Nat.{ℕ}
 use mathlib.Core.Path.{_≡_, sym}
+use mathlib.Core.Bool.{not}
 use mir.Facts.{toZ-ofZ}
-use Rattle.flight_time.specs.Steps.{outsideRange, xOf}
-use Rattle.flight_time.specs.Time.{timeOf}
+use lib.Ieee.{Float}
+use Rattle.float64.specs.Value.{finiteOf}
+use Rattle.geometry.specs.declared.Triangle.{Triangle}
+use Rattle.hypergeometric.specs.Steps.{gOf}
+use Rattle.hypergeometric.specs.declared.results.Angles.{Angles}
+use Rattle.flight_time.specs.Steps.{outsideRange, xOf, directOf, withRevolutions}
+use Rattle.flight_time.specs.Time.{timeOf, voidIf, afterStep, afterAngles}
+use Rattle.flight_time.specs.declared.Place.{Place}
+use Rattle.flight_time.specs.declared.Place.the-variants.{Timed}
 use borrow.Author.Needs.{needs}
 use Rattle.flight_time.proofs.time_at.Statement.{statement}
 use Rattle.flight_time.proofs.time_at.Tie as tie
 
 -- what two calls ensure, of k itself: what the machine reads back from the bits of k is k
-out : (c : tie.After-is-outside) → c .is-outside .result ≡ outsideRange (c .before .args .triangle .lambda) (c .before .args .k) (c .before .args .m)
+out : (c : tie.After-is-outside)
+    → let a = c .before .args in
+    c .is-outside .result ≡ outsideRange (a .triangle .lambda) (a .k) (a .revolutions)
 out c = rw (toZ-ofZ (c .before .fits .k)) at (c .is-outside .ensures)
 
 x-is : (c : tie.After-x-at) → c .x-at .result ≡ xOf (c .before .before .before .args .k)
 x-is c = rw (toZ-ofZ (c .before .before .before .fits .k)) at (c .x-at .ensures)
+
+-- ---- what is left of the steps once the angles, G or the time are worked out
+abbrev from-time : Float → Place
+from-time time = voidIf (not (finiteOf time)) (Timed time)
+
+abbrev from-g : Triangle → Float → ℕ → Angles → Float → Place
+from-g t u revolutions angles g = afterStep (withRevolutions (directOf (t .lambda) (angles .eta) g) u revolutions) from-time
+
+abbrev from-angles : Triangle → Float → ℕ → Angles → Place
+from-angles t u revolutions angles = afterStep (gOf angles) (from-g t u revolutions angles)
+
+to-angles : (c : tie.After-half-angles)
+    → let u = c .before in
+    let a = u .before .before .before .before .args in
+    timeOf (a .triangle) (a .k) (a .revolutions)
+    ≡ afterAngles (c .half-angles .result) (from-angles (a .triangle) (u .u-at .result) (a .revolutions))
+unfolding timeOf
+to-angles c =
+    let u = c .before in
+    let x = u .before in
+    let inside = x .before in
+    simp (sym (out (inside .before)), inside .if1 .left, sym (x-is x), sym (u .u-at .ensures), sym (c .half-angles .ensures))
+
+to-g : (c : tie.After-g-at)
+    → let angles = c .before .before in
+    let u = angles .before .before .before in
+    let a = u .before .before .before .before .args in
+    timeOf (a .triangle) (a .k) (a .revolutions)
+    ≡ afterStep (c .g-at .result) (from-g (a .triangle) (u .u-at .result) (a .revolutions) (angles .angles .given .0 .0))
+to-g c =
+    let angles = c .before .before in
+    simp (to-angles (angles .before .before), angles .angles .given .1, sym (c .g-at .ensures))
+
+to-time : (c : tie.After-with-revolutions)
+    → let g = c .before .before .before in
+    let angles = g .before .before .before .before in
+    let a = angles .before .before .before .before .before .before .before .args in
+    timeOf (a .triangle) (a .k) (a .revolutions) ≡ afterStep (c .with-revolutions .result) from-time
+to-time c =
+    let direct = c .before in
+    let g = direct .before .before in
+    simp (to-g (g .before .before), g .g .given .1, sym (direct .direct .ensures), sym (c .with-revolutions .ensures))
 
 is-outside-requires : tie.Need-is-outside-requires
 is-outside-requires c κs = search needs
@@ -27,21 +80,20 @@ x-at-requires c κs = search needs
 u-at-requires : tie.Need-u-at-requires
 u-at-requires c κs = search needs
 
-halved-requires : tie.Need-halved-requires
-halved-requires c κs = search needs
+half-angles-requires : tie.Need-half-angles-requires
+half-angles-requires c κs = search needs
 
-enum-known-v : tie.Need-enum-known-v
-enum-known-v c = search needs
+enum-known-angles : tie.Need-enum-known-angles
+enum-known-angles c = search needs
 
 enum-told : tie.Need-enum-told
 enum-told c = search needs
 
 returns-2 : tie.Need-returns-2
-unfolding timeOf
-returns-2 c = simp (sym (out (c .before .before .before .before .before .before)), c .before .before .before .before .before .if1 .left, sym (x-is (c .before .before .before .before)), sym (c .before .before .before .u-at .ensures), sym (c .before .before .halved .ensures), c .enum-told .given .1)
+returns-2 c = simp (to-angles (c .before .before), c .enum-told .given .1)
 
-climbed-requires : tie.Need-climbed-requires
-climbed-requires c κs = search needs
+g-at-requires : tie.Need-g-at-requires
+g-at-requires c κs = search needs
 
 enum-known-g : tie.Need-enum-known-g
 enum-known-g c = search needs
@@ -50,14 +102,13 @@ enum-told-2 : tie.Need-enum-told-2
 enum-told-2 c = search needs
 
 returns-3 : tie.Need-returns-3
-unfolding timeOf
-returns-3 c = simp (sym (out (c .before .before .before .before .before .before .before .before .before .before)), c .before .before .before .before .before .before .before .before .before .if1 .left, sym (x-is (c .before .before .before .before .before .before .before .before)), sym (c .before .before .before .before .before .before .before .u-at .ensures), sym (c .before .before .before .before .before .before .halved .ensures), c .before .before .before .before .v .given .1, sym (c .before .before .climbed .ensures), c .enum-told2 .given .1)
+returns-3 c = simp (to-g (c .before .before), c .enum-told2 .given .1)
 
 direct-requires : tie.Need-direct-requires
 direct-requires c κs = search needs
 
-revolved-requires : tie.Need-revolved-requires
-revolved-requires c κs = search needs
+with-revolutions-requires : tie.Need-with-revolutions-requires
+with-revolutions-requires c κs = search needs
 
 enum-known-time : tie.Need-enum-known-time
 enum-known-time c = search needs
@@ -66,19 +117,20 @@ enum-told-3 : tie.Need-enum-told-3
 enum-told-3 c = search needs
 
 returns-4 : tie.Need-returns-4
-unfolding timeOf
-returns-4 c = simp (sym (out (c .before .before .before .before .before .before .before .before .before .before .before .before .before .before .before)), c .before .before .before .before .before .before .before .before .before .before .before .before .before .before .if1 .left, sym (x-is (c .before .before .before .before .before .before .before .before .before .before .before .before .before)), sym (c .before .before .before .before .before .before .before .before .before .before .before .before .u-at .ensures), sym (c .before .before .before .before .before .before .before .before .before .before .before .halved .ensures), c .before .before .before .before .before .before .before .before .before .v .given .1, sym (c .before .before .before .before .before .before .before .climbed .ensures), c .before .before .before .before .before .g .given .1, sym (c .before .before .before .direct .ensures), sym (c .before .before .revolved .ensures), c .enum-told3 .given .1)
+returns-4 c = simp (to-time (c .before .before), c .enum-told3 .given .1)
 
 is-finite-requires : tie.Need-is-finite-requires
 is-finite-requires c κs = search needs
 
 returns-5 : tie.Need-returns-5
-unfolding timeOf
-returns-5 c = simp (sym (out (c .before .before .before .before .before .before .before .before .before .before .before .before .before .before .before .before .before .before)), c .before .before .before .before .before .before .before .before .before .before .before .before .before .before .before .before .before .if1 .left, sym (x-is (c .before .before .before .before .before .before .before .before .before .before .before .before .before .before .before .before)), sym (c .before .before .before .before .before .before .before .before .before .before .before .before .before .before .before .u-at .ensures), sym (c .before .before .before .before .before .before .before .before .before .before .before .before .before .before .halved .ensures), c .before .before .before .before .before .before .before .before .before .before .before .before .v .given .1, sym (c .before .before .before .before .before .before .before .before .before .before .climbed .ensures), c .before .before .before .before .before .before .before .before .g .given .1, sym (c .before .before .before .before .before .before .direct .ensures), sym (c .before .before .before .before .before .revolved .ensures), c .before .before .before .time .given .1, sym (c .before .is-finite .ensures), c .if2 .taken)
+returns-5 c =
+    let time = c .before .before .before in
+    simp (to-time (time .before .before), time .time .given .1, sym (c .before .is-finite .ensures), c .if2 .taken)
 
 returns-6 : tie.Need-returns-6
-unfolding timeOf
-returns-6 c = simp (sym (out (c .before .before .before .before .before .before .before .before .before .before .before .before .before .before .before .before .before .before)), c .before .before .before .before .before .before .before .before .before .before .before .before .before .before .before .before .before .if1 .left, sym (x-is (c .before .before .before .before .before .before .before .before .before .before .before .before .before .before .before .before)), sym (c .before .before .before .before .before .before .before .before .before .before .before .before .before .before .before .u-at .ensures), sym (c .before .before .before .before .before .before .before .before .before .before .before .before .before .before .halved .ensures), c .before .before .before .before .before .before .before .before .before .before .before .before .v .given .1, sym (c .before .before .before .before .before .before .before .before .before .before .climbed .ensures), c .before .before .before .before .before .before .before .before .g .given .1, sym (c .before .before .before .before .before .before .direct .ensures), sym (c .before .before .before .before .before .revolved .ensures), c .before .before .before .time .given .1, sym (c .before .is-finite .ensures), c .if2 .left)
+returns-6 c =
+    let time = c .before .before .before in
+    simp (to-time (time .before .before), time .time .given .1, sym (c .before .is-finite .ensures), c .if2 .left)
 
 pub time-at-spec : {M : Type 1} → statement M
 time-at-spec =
@@ -88,16 +140,16 @@ time-at-spec =
     returns
     x-at-requires
     u-at-requires
-    halved-requires
-    enum-known-v
+    half-angles-requires
+    enum-known-angles
     enum-told
     returns-2
-    climbed-requires
+    g-at-requires
     enum-known-g
     enum-told-2
     returns-3
     direct-requires
-    revolved-requires
+    with-revolutions-requires
     enum-known-time
     enum-told-3
     returns-4
