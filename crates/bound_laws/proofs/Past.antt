@@ -22,6 +22,7 @@ use Rattle.entrance.specs.Table.{appliesIn, conditionOf}
 use Rattle.bound_laws.specs.Bounds.{AtMost, Within, VectorAtMost}
 use Rattle.bound_laws.specs.QuestionBounds.{wantedOperand, ShapeBounds, ProblemBounds, QuestionBounds}
 use Rattle.bound_laws.proofs.Representable.{power-of-two}
+use Rattle.bound_laws.proofs.Operations.{most-weaker, least-weaker}
 use Rattle.bound_laws.proofs.Roots.{root-value, root-most, root-not-negative, least-not-below}
 use Rattle.bound_laws.proofs.Comparisons.{both-false, component-most, within-40, within-60, at-least-zero-most}
 use Rattle.bound_laws.proofs.Shapes.{position-norm, difference-vector-most, difference-norm, cross-most, cross-norm}
@@ -132,12 +133,12 @@ module _ (p1 p2 : Vector) (long : Bool) (P1 : VectorAtMost p1 (2 ^ 40) 1) (P2 : 
         lambdaRoot = root-value (atLeastZero (1F ⊖ c ⊘ s)) (L .0 .is-finite) (L .1);
         sigmaRoot = root-value (1F ⊖ ρ ⊗ ρ) (O .most .is-finite) (least-not-below (O .least));
         planeRoot = root-value hh (H .most .is-finite) (least-not-below (H .least));
-        radius1 = R1;
+        radius1 = record { least = least-weaker _ _ (R1 .least) (lit< tt) (lit≤ tt); most = R1 .most };
         radius2 = R2;
         chord = C′;
         semiperimeter = S;
         ratio = K;
-        lambda = lambda-most c s long K;
+        lambda = most-weaker _ _ (lambda-most c s long K) (lit< tt) (lit≤ tt);
         rho = R;
         sigma = sigma-within ρ O;
         h = cross-most p1 p2 P1 P2;
@@ -154,16 +155,16 @@ problem-bounds : (q : Question) (g : Shape) → VectorAtMost (q .r1) (2 ^ 40) 1 
     → ShapeBounds (q .r1) (q .r2) g → Within (q .mu) 1 1 (2 ^ 60) 1 → Within (q .time) 1 1 (2 ^ 40) 1
     → ProblemBounds (problemOf q g)
 unfolding problemOf frameOf
-problem-bounds q g P1 P2 G M T =
+problem-bounds q g P1 P2 G M D =
     let s = g .triangle .semiperimeter in
     let root = rootOrNan (g .hh) in
     let n = divided-most (g .h) root (2 ^ 81) (2 ^ 103) (2 ^ 22) (G .h) (G .hhRoot .least) (power-of-two 103 (lit≤ tt)) (lit≤ tt) in
     let o = operand-within (q .mu) s M (G .semiperimeter) in
-    let w = wanted-within (q .mu) s (q .time) M (G .semiperimeter) T in
+    let w = wanted-within (q .mu) s (q .time) M (G .semiperimeter) D in
     record {
       operand = o;
       operandRoot = root-value (wantedOperand (q .mu) s) (o .most .is-finite) (least-not-below (o .least));
-      wanted = w;
+      wanted = record { least = least-weaker _ _ (w .least) (lit< tt) (lit≤ tt); most = w .most };
       wantedFinite = w .most .is-finite;
       wantedAbove = is-above-zero (w .least) (lit< tt);
       lambdaBelow = below-one (g .triangle .lambda) (G .lambda);
@@ -207,11 +208,11 @@ question-bounds s P =
     let P2 = position-most (q .r2) (R .r2) (far .1) in
     let G = shape-bounds (q .r1) (q .r2) (longWay q) P1 P2 (P .radii) (P .plane) (P .chord) (P .flat) in
     let M = within-60 (q .mu) (R .mu) (P .mu) in
-    let T = within-40 (q .time) (R .time) (P .time) in
+    let D = within-40 (q .time) (R .time) (P .time) in
     record {
-      time = T;
+      time = D;
       shape = G;
-      problem = problem-bounds q (shapeOf (q .r1) (q .r2) (longWay q)) P1 P2 G M T;
+      problem = problem-bounds q (shapeOf (q .r1) (q .r2) (longWay q)) P1 P2 G M D;
     }
 
 pub past-bounds : (s : List ℕ) (room : ℕ) → ((n : ℕ) → conditionOf s room n ≡ false) → QuestionBounds s

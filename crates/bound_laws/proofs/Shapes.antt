@@ -100,9 +100,9 @@ operand-within mu s M S =
 pub wanted-within : (mu s time : Float) → Within mu 1 1 (2 ^ 60) 1 → Within s 1 1 (2 ^ 42) 1 → Within time 1 1 (2 ^ 40) 1
     → Within (wantedOf mu s time) 1 (2 ^ 63) (2 ^ 71) 1
 unfolding wantedOf
-wanted-within mu s time M S T =
+wanted-within mu s time M S D =
     let o = operand-within mu s M S in
     let r = root-most (o .most) (least-not-below (o .least)) (power-of-two 31 (lit≤ tt)) (lit≤ tt) in
     let r′ = root-least (o .most .is-f64) (o .least) (lit< tt) (dyadic 1 63 (lit< tt) (lit≤ tt)) (lit≤ tt) in
-    let w = mul-most r (T .most) (power-of-two 71 (lit≤ tt)) (lit≤ tt) in
-    record { least = mul-least r′ (T .least) (dyadic 1 63 (lit< tt) (lit≤ tt)) (w .is-finite) (lit≤ tt); most = w }
+    let w = mul-most r (D .most) (power-of-two 71 (lit≤ tt)) (lit≤ tt) in
+    record { least = mul-least r′ (D .least) (dyadic 1 63 (lit< tt) (lit≤ tt)) (w .is-finite) (lit≤ tt); most = w }
