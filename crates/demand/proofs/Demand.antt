@@ -22,6 +22,7 @@ use Rattle.entrance.specs.declared.Problem.{Problem}
 use Rattle.entrance.specs.declared.Judged.{Judged}
 use Rattle.entrance.specs.declared.Judged.the-variants.{Refused, Accepted}
 use Rattle.entrance.proofs.Table.{Rising, none, more, UpTo, above, first-is, is-first, none-first, first-none, accepted-exactly, accepted-room}
+use Rattle.bound_laws.proofs.Past.{past-bounds}
 use Rattle.stations.specs.Sides.{isUnknown}
 use Rattle.stations.specs.Stations.{stationOf}
 use Rattle.crossing_laws.specs.Listed.{Listed}
@@ -36,6 +37,7 @@ use Rattle.solution.specs.Crossed.{sidesOf, lastStation, entriesOf}
 use Rattle.solution.specs.Table.{crossingCount, anyVoid, allFinite, lateChecks}
 use Rattle.solution.specs.Solve.{Solved, refused, answered, settledOf, after, solveOf}
 use Rattle.demand.specs.Demand.{problemFrom, tableOf, rowOf, HasAnswer, Demand1, Past, Counts, pairsOf, bracketAt, entryAt, FiniteAll, FiniteNot, TimedAll, VoidSome, NonePair, Pairs, Answer, Demand3}
+use Rattle.demand.specs.Demand.{InDomain}
 use Rattle.solution.proofs.Numbering.{rows, rows-are}
 use Rattle.demand.proofs.RowFacts.{is-none, is-eleven, is-twelve, is-thirteen, is-fourteen, only-four, first-append}
 use Rattle.little_endian.proofs.Laid.{laid}
@@ -135,7 +137,9 @@ module _ (s b : List ℕ) where
         number = λ n e.
             let r = refused-when n e in
             let f = first-is 0 (tableOf s (length b)) n rising-table (r .1) (r .0) in
-            (r .1, le-of-suc-le-suc (lt-of-not-le (λ (h : 15 ≤ n). clash (f .own) (above 14 (tableOf s (length b)) n to-fourteen h))));
+            let never : 15 ≤ n → ⊥ = λ h. clash (f .own) (above 14 (tableOf s (length b)) n to-fourteen h) in
+            let most : n ≤ 14 = le-of-suc-le-suc (lt-of-not-le never) in
+            (r .1, omega (arith, most));
         untouched = λ n e.
             let r = refused-when n e in
             ap (λ (x : Solved). x .buffer) (when-refused n (r .1) (r .0));
@@ -203,6 +207,11 @@ module _ (s b : List ℕ) where
     not-all-finite : FiniteNot p → allFinite p ≡ false
     not-all-finite h = false-by (allFinite p) (λ t. clash (finite-all t (h .0) (h .1 .0)) (h .1 .1))
 
+    in-domain : InDomain p
+    in-domain =
+        let bounds = past-bounds s (length b) past .problem in
+        record { wantedFinite = bounds .wantedFinite; wantedAbove = bounds .wantedAbove; lambdaBelow = bounds .lambdaBelow }
+
     the-pairs : Pairs p
     the-pairs =
         record {
@@ -250,6 +259,7 @@ module _ (s b : List ℕ) where
     pub demand-3 : Demand3 s b
     demand-3 =
         record {
+          domain = in-domain;
           pairs = the-pairs;
           accepted =
               record {

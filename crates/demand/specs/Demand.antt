@@ -7,7 +7,8 @@ use Prim.Native.Nat.{ℕ, _+_, _*_, _^_, _≤_, _<_}
 use lib.IntN.{ℤ, pos, _+ℤ_}
 use lib.Ieee.{Float}
 use lib.ListN.{length, getD, take, drop}
-use Rattle.float64.specs.Notation.{_≺_}
+use Rattle.float64.specs.Notation.{_≺_, 0F, 1F}
+use Rattle.float64.specs.Value.{finiteOf, magnitudeOf}
 use Rattle.geometry.specs.Triangles.{shapeOf}
 use Rattle.records.specs.Records.{questionOf, headBytes, entryBytes, answerBytes}
 use Rattle.records.specs.declared.Entry.{Entry}
@@ -61,6 +62,13 @@ pub record Demand1 (s b : List ℕ) : Type 0 where
 
 abbrev pub Past : List ℕ → ℕ → Type 0
 Past s room = (n : ℕ) → conditionOf s room n ≡ false
+
+-- the wanted time that every station is compared with is a finite number above 0, so that 11 is a fact about times and not about a NaN;
+-- and |L| is below 1, as the time at a place asks
+pub record InDomain (p : Problem) : Type 0 where
+  pub wantedFinite : finiteOf (p .wanted) ≡ true
+  pub wantedAbove : (0F ≺ p .wanted) ≡ true
+  pub lambdaBelow : (magnitudeOf (p .triangle .lambda) ≺ 1F) ≡ true
 
 -- what counts: a neighbouring pair of stations, i and i + 1, with both times known and just one of them below the wanted time
 pub record Counts (p : Problem) (i : ℕ) : Type 0 where
@@ -130,6 +138,7 @@ pub record Answer (s b : List ℕ) (n : ℕ) : Type 0 where
   pub entry : (e : ℕ) → e < n → take 64 (drop (16 + 64 * e) (solveOf s b .buffer)) ≡ entryBytes (entryAt (problemFrom s) (getD (pairsOf (problemFrom s)) e 0))
 
 pub record Demand3 (s b : List ℕ) : Type 0 where
+  pub domain : InDomain (problemFrom s)
   pub pairs : Pairs (problemFrom s)
   -- accepted exactly when there are one to eight such pairs and every velocity is finite
   pub accepted : Exactly (HasAnswer s b) ((1 ≤ length (pairsOf (problemFrom s))) × (length (pairsOf (problemFrom s)) ≤ 8) × FiniteAll (problemFrom s))
