@@ -1,4 +1,4 @@
--- Roots that the prover computes: one table, one statement over all of it.
+-- Roots that the prover computes, beside those of 01's worked cases: one table, one statement over all of it.
 use mathlib.Core.Path.{_≡_, refl}
 use mathlib.Core.List.{List, [], _∷_, map}
 use Prim.Native.Nat.{ℕ}
@@ -17,14 +17,10 @@ infix 1 _⇒_
 pub _⇒_ : ℕ → Root → Row
 b ⇒ r = record { operand = b; root = r }
 
--- 4, 1/4, 2 and -1; the least f64 and the greatest; -0 and +0; the infinities and a NaN; the greatest subnormal and the least normal number
+-- the least f64 and the greatest; -0 and +0; the infinities and a NaN; the greatest subnormal and the least normal number
 pub rows : List Row
 rows =
-    (0x4010_0000_0000_0000 ⇒ Value (bits 0x4000_0000_0000_0000))
-    ∷ (0x3FD0_0000_0000_0000 ⇒ Value (bits 0x3FE0_0000_0000_0000))
-    ∷ (0x4000_0000_0000_0000 ⇒ Value (bits 0x3FF6_A09E_667F_3BCD))
-    ∷ (0xBFF0_0000_0000_0000 ⇒ Refused)
-    ∷ (0x0000_0000_0000_0001 ⇒ Value (bits 0x1E60_0000_0000_0000))
+    (0x0000_0000_0000_0001 ⇒ Value (bits 0x1E60_0000_0000_0000))
     ∷ (0x7FEF_FFFF_FFFF_FFFF ⇒ Value (bits 0x5FEF_FFFF_FFFF_FFFF))
     ∷ (0x8000_0000_0000_0000 ⇒ Value (bits 0x8000_0000_0000_0000))
     ∷ (0x0000_0000_0000_0000 ⇒ Value (bits 0x0000_0000_0000_0000))

@@ -1,4 +1,5 @@
--- 01's worked cases, one statement over the whole table, computed by the prover (`each-row-holds`); and 01's worked question is past the entrance checks (`worked-past`).
+-- 01's worked cases, one statement over the whole table, computed by the prover (`each-row-holds`); and 01's worked question is past the
+-- entrance checks (`worked-past`).
 use mathlib.Core.Path.{_≡_, refl}
 use mathlib.Core.List.{List, map}
 use Prim.Native.Nat.{ℕ}
@@ -24,7 +25,11 @@ use Rattle.solution.specs.Solve.{solveOf, longest}
 use Rattle.demand.specs.Demand.{Past}
 
 pub each-row-holds : map (λ (r : Row). resultOf (r .case)) rows ≡ map (λ (r : Row). r .result) rows
-unfolding rows resultOf withLambda like asked solveOf judgeOf checks firstOf malformed farOff positionFar positionsFar muOutside timeOutside manyRevolutions smallBuffer outsideOf radiusOutside noPlane shortChord flatTriangle semiperimeterOf atLeastZero lambdaOf triangleOf shapeOf normSquared difference cross orNan rootOrNan questionOf questionBytes encode questionFields bytesOf numberAt rootOf magnitudeOf finiteOf timeOf outsideRange xOf uOf yOf etaOf c1Of nextC halfAnglesOf ratioOf seriesFrom seriesOf s4Of backOf gOf directOf withRevolutions add sub mul div round units odd size neg lt le eq ofBits ofInt toBits
+unfolding rows resultOf withLambda like asked solveOf judgeOf checks firstOf malformed farOff positionFar positionsFar muOutside
+    timeOutside manyRevolutions smallBuffer outsideOf radiusOutside noPlane shortChord flatTriangle semiperimeterOf atLeastZero
+    lambdaOf triangleOf shapeOf normSquared difference cross orNan rootOrNan questionOf questionBytes encode questionFields bytesOf
+    numberAt rootOf magnitudeOf finiteOf timeOf outsideRange xOf uOf yOf etaOf c1Of nextC halfAnglesOf ratioOf seriesFrom seriesOf s4Of
+    backOf gOf directOf withRevolutions add sub mul div round units odd size neg lt le eq ofBits ofInt toBits
 each-row-holds = refl
 
 -- a question past the entrance checks: 01's worked one, so that what is shown of such questions is shown of some
@@ -32,7 +37,10 @@ pub worked : List ℕ
 worked = like 7 1 (flat ONE 0) (flat 0 ONE) ONE
 
 no-fault : firstOf (let q = questionOf worked in checks (length worked) longest q (shapeOf (q .r1) (q .r2) (longWay q))) ≡ 0
-unfolding worked like asked checks firstOf malformed farOff positionFar positionsFar muOutside timeOutside manyRevolutions smallBuffer outsideOf radiusOutside noPlane shortChord flatTriangle semiperimeterOf atLeastZero lambdaOf triangleOf shapeOf normSquared difference cross orNan rootOrNan questionOf questionBytes encode questionFields bytesOf numberAt rootOf magnitudeOf finiteOf add sub mul div neg lt le eq ofBits toBits
+unfolding worked like asked checks firstOf malformed farOff positionFar positionsFar muOutside timeOutside manyRevolutions smallBuffer
+    outsideOf radiusOutside noPlane shortChord flatTriangle semiperimeterOf atLeastZero lambdaOf triangleOf shapeOf normSquared
+    difference cross orNan rootOrNan questionOf questionBytes encode questionFields bytesOf numberAt rootOf magnitudeOf finiteOf add
+    sub mul div neg lt le eq ofBits toBits
 no-fault = refl
 
 pub worked-past : Past worked longest

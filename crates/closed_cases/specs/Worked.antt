@@ -1,4 +1,5 @@
--- 01's worked cases in one table: four roots, the two exact times, two void places, and six refusals from a question's bytes on. Definitions only.
+-- 01's worked cases in one table: four roots, the two exact times, two void places, and six refusals from a question's bytes on.
+-- Definitions only.
 use Prim.Native.Nat.{ℕ, _^_}
 use mathlib.Core.List.{List, [], _∷_}
 use lib.IntN.{ℤ, pos}
