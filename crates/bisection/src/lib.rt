@@ -2,6 +2,7 @@
 // stations stops.
 ghost use mathlib.Core.Path.{_≡_};
 ghost use Prim.Native.Nat.{_-_};
+ghost use Rattle.stations.specs.Grid.{stations};
 ghost use Rattle.stations.specs.Sides.{sideAt};
 ghost use Rattle.bisection.specs.Halving.{bisectOf};
 ghost use Rattle.bisection.specs.Interval.{Interval};
@@ -24,7 +25,7 @@ pub struct Bracket {
 // The bracket of the stations i and i + 1: where the halving of this pair stops. Its ends are on
 // opposite sides if the pair's are.
 pub fn bracket_of(triangle: Triangle, m: u16, wanted: f64, i: u16) -> Bracket
-    ensures { λ r. ⌜ r ≡ bracketOf (sideAt triangle m wanted) i ⌝ }
+    ensures { λ r. ⌜ r ≡ bracketOf (sideAt triangle m wanted) stations i ⌝ }
 {
     let a = station(i);
     let low = side_at(triangle, m, wanted, a);

@@ -20,7 +20,7 @@ use Rattle.stations.specs.declared.side.Side.{Side}
 use Rattle.stations.specs.declared.side.Side.the-variants.{Below, Unknown}
 use Rattle.sweep.specs.declared.Walk.the-variants.{SomeVoid}
 use Rattle.stations.specs.Sides.{sideOf, sideAt, isUnknown}
-use Rattle.stations.specs.Stations.{stationOf, lastOf}
+use Rattle.stations.specs.Grid.{Grid}
 use Rattle.bisection.specs.Pairs.{crosses}
 use Rattle.sweep.specs.Crossings.{crossings, sweepOf}
 use Rattle.crossing_laws.proofs.Theorems.{clash, counted, none-exactly, void-exactly}
@@ -39,12 +39,12 @@ known-finite t m w k h = timed-by t m w k (timeOf t k m) refl h
 
 -- ---- where no place has a time, nothing is found, and void stations are the reason
 
-all-unknown : (σ : ℤ → Side) (last : ℕ) → ((k : ℤ) → σ k ≡ Unknown) → (sweepOf σ last .count ≡ 0) × (sweepOf σ last .walk ≡ SomeVoid)
+all-unknown : (σ : ℤ → Side) (g : Grid) (last : ℕ) → ((k : ℤ) → σ k ≡ Unknown) → (sweepOf σ g last .count ≡ 0) × (sweepOf σ g last .walk ≡ SomeVoid)
 unfolding crosses
-all-unknown σ last u =
-    let none : sweepOf σ last .count ≡ 0 = none-exactly σ last .1 (λ i h. rw (u (stationOf i))) in
-    let few : length (crossings σ last) ≤ 8 = omega (arith, none, counted σ last) in
-    (none, void-exactly σ last .1 (few, (0, (omega arith, rw (u (stationOf 0))))))
+all-unknown σ g last u =
+    let none : sweepOf σ g last .count ≡ 0 = none-exactly σ g last .1 (λ i h. rw (u (g .place i))) in
+    let few : length (crossings σ g last) ≤ 8 = omega (arith, none, counted σ g last) in
+    (none, void-exactly σ g last .1 (few, (0, (omega arith, rw (u (g .place 0))))))
 
 or-true : (a b : Bool) → b ≡ true → a || b ≡ true
 or-true true b e = refl
@@ -55,11 +55,11 @@ unfolding sideAt sideOf timeOf
 outside-by t m w k e = rw e
 
 -- |L| not below 1, or more than 16 revolutions
-pub nothing-outside : (t : Triangle) (m : ℕ) (w : Float) → ((magnitudeOf (t .lambda) ≺ 1F) ≡ false) ⊎ (mostRevolutions < m) →
-    (sweepOf (sideAt t m w) (lastOf m) .count ≡ 0) × (sweepOf (sideAt t m w) (lastOf m) .walk ≡ SomeVoid)
+pub nothing-outside : (t : Triangle) (m : ℕ) (w : Float) (g : Grid) (last : ℕ) → ((magnitudeOf (t .lambda) ≺ 1F) ≡ false) ⊎ (mostRevolutions < m) →
+    (sweepOf (sideAt t m w) g last .count ≡ 0) × (sweepOf (sideAt t m w) g last .walk ≡ SomeVoid)
 unfolding outsideRange
-nothing-outside t m w h =
-    all-unknown (sideAt t m w) (lastOf m) (λ k. outside-by t m w k
+nothing-outside t m w g last h =
+    all-unknown (sideAt t m w) g last (λ k. outside-by t m w k
     (⊎-elim (λ e. rw e) (λ l. or-true (not (magnitudeOf (t .lambda) ≺ 1F)) _ (rw (lt-ltb mostRevolutions m l))) h))
 
 -- ---- a wanted time that is no number is crossed nowhere
@@ -70,13 +70,13 @@ none-below-nan nan = refl
 none-below-nan (inf s) = refl
 none-below-nan (fin s m e) = refl
 
-pub nothing-at-nan : (t : Triangle) (m : ℕ) → sweepOf (sideAt t m nan) (lastOf m) .count ≡ 0
+pub nothing-at-nan : (t : Triangle) (m : ℕ) (g : Grid) (last : ℕ) → sweepOf (sideAt t m nan) g last .count ≡ 0
 unfolding crosses sideAt
-nothing-at-nan t m =
-    none-exactly (sideAt t m nan) (lastOf m) .1 (λ i h.
-    none-below (sideOf (timeOf t (stationOf i) m) nan) (sideOf (timeOf t (stationOf (i + 1)) m) nan)
-    (not-below (timeOf t (stationOf i) m))
-    (not-below (timeOf t (stationOf (i + 1)) m)))
+nothing-at-nan t m g last =
+    none-exactly (sideAt t m nan) g last .1 (λ i h.
+    none-below (sideOf (timeOf t (g .place i) m) nan) (sideOf (timeOf t (g .place (i + 1)) m) nan)
+    (not-below (timeOf t (g .place i) m))
+    (not-below (timeOf t (g .place (i + 1)) m)))
   where
     not-below : (p : Place) → sideOf p nan ≡ Below → ⊥
     not-below p e = let b = below-exactly p nan .0 e in clash (b .1 .1) (none-below-nan (b .0))

@@ -8,27 +8,27 @@ use lib.IntN.{ℤ, pos, _+ℤ_, +ℤ-idr, +ℤ-assoc}
 use Rattle.bisection.specs.declared.Bracket.{Bracket}
 use Rattle.stations.specs.declared.side.Side.{Side}
 use Rattle.stations.specs.Sides.{opposite, isUnknown}
-use Rattle.stations.specs.Stations.{stationOf}
+use Rattle.stations.specs.Grid.{Grid, IsRising}
 use Rattle.bisection.specs.Halving.{middleOf, stops, bisectOf}
 use Rattle.bisection.specs.Pairs.{crosses, bracketOf}
 use Rattle.crossing_laws.specs.Brackets.{Comes, start, keeps-lower, keeps-upper, IsBracket}
-use Rattle.stations.proofs.Places.{next-station}
 use Rattle.bisection.proofs.Halving.{same-side, lower-known, upper-known, up-less, middle, top, up-twice, middle-is, stops-is, step}
 
-module _ (σ : ℤ → Side) (a b : ℤ) where
+module _ (σ : ℤ → Side) (a b : ℤ) (initial : ℕ) where
   -- the interval from x, of the width 2^n, in the halving of the pair from a to b
   record Along (x : ℤ) (n h : ℕ) : Type 0 where
     pub fromLower : ℕ
     pub lowerIs : x ≡ a +ℤ pos fromLower
     pub toUpper : ℕ
     pub upperIs : b ≡ x +ℤ pos (2 ^ n) +ℤ pos toUpper
+    pub least : initial ≤ h
     pub left : h + n ≡ 20
     pub ends : opposite (σ x) (σ (x +ℤ pos (2 ^ n))) ≡ true
-    pub comes : Comes σ a b x (x +ℤ pos (2 ^ n)) h
+    pub comes : Comes σ a b initial x (x +ℤ pos (2 ^ n)) h
 
   -- where it stops
   stopping : (x : ℤ) (n h : ℕ) → Along x n h → (x +ℤ pos (2 ^ n) ≡ x +ℤ pos 1) ⊎ (isUnknown (σ (middleOf x (x +ℤ pos (2 ^ n)))) ≡ true) → stops σ x (x +ℤ pos (2 ^ n)) ≡ true →
-      IsBracket σ a b (record { lower = x; upper = x +ℤ pos (2 ^ n); halvings = h })
+      IsBracket σ a b initial (record { lower = x; upper = x +ℤ pos (2 ^ n); halvings = h })
   stopping x n h v s e =
       let w : 20 - h ≡ n = omega (arith, v .left) in
       record {
@@ -37,6 +37,7 @@ module _ (σ : ℤ → Side) (a b : ℤ) where
         toUpper = v .toUpper;
         upperIs = v .upperIs;
         width = rw w;
+        least = v .least;
         most = omega (arith, v .left);
         lowerTimed = lower-known (σ x) (σ (x +ℤ pos (2 ^ n))) (v .ends);
         upperTimed = upper-known (σ x) (σ (x +ℤ pos (2 ^ n))) (v .ends);
@@ -54,10 +55,11 @@ module _ (σ : ℤ → Side) (a b : ℤ) where
           lowerIs = v .lowerIs;
           toUpper = 2 ^ n + v .toUpper;
           upperIs = v .upperIs ∙ ap (λ (z : ℤ). z +ℤ pos (v .toUpper)) (sym (up-twice x n)) ∙ +ℤ-assoc (middle x n) (pos (2 ^ n)) (pos (v .toUpper));
+          least = omega (arith, v .least);
           left = omega (arith, v .left);
           ends = o;
           comes =
-              subst (λ (z : ℤ). Comes σ a b x z (h + 1)) (middle-is x n)
+              subst (λ (z : ℤ). Comes σ a b initial x z (h + 1)) (middle-is x n)
               (keeps-lower (v .comes) (stops-is x n σ ∙ e) (rw (middle-is x n) o));
         }
 
@@ -68,56 +70,58 @@ module _ (σ : ℤ → Side) (a b : ℤ) where
           lowerIs = ap (λ (z : ℤ). z +ℤ pos (2 ^ n)) (v .lowerIs) ∙ +ℤ-assoc a (pos (v .fromLower)) (pos (2 ^ n));
           toUpper = v .toUpper;
           upperIs = v .upperIs ∙ ap (λ (z : ℤ). z +ℤ pos (v .toUpper)) (sym (up-twice x n));
+          least = omega (arith, v .least);
           left = omega (arith, v .left);
           ends = rw (up-twice x n, ← same-side (σ x) (σ (middle x n)) (lower-known (σ x) (σ (top x n)) (v .ends)) e o) (v .ends);
           comes =
-              subst (λ (z : ℤ). Comes σ a b (middle x n) z (h + 1)) (sym (up-twice x n))
-              (subst (λ (z : ℤ). Comes σ a b z (top x n) (h + 1)) (middle-is x n)
+              subst (λ (z : ℤ). Comes σ a b initial (middle x n) z (h + 1)) (sym (up-twice x n))
+              (subst (λ (z : ℤ). Comes σ a b initial z (top x n) (h + 1)) (middle-is x n)
               (keeps-upper (v .comes) (stops-is x n σ ∙ e) (rw (middle-is x n) o)));
         }
 
   -- one step of the definition: it stops at a void middle, else it goes on in the half that still crosses
   choose : (x : ℤ) (n h : ℕ) (u o : Bool) (p q : Bracket) → Along x (suc n) h → isUnknown (σ (middle x n)) ≡ u → opposite (σ x) (σ (middle x n)) ≡ o →
-      (Along x n (h + 1) → IsBracket σ a b p) → (Along (middle x n) n (h + 1) → IsBracket σ a b q) →
-      IsBracket σ a b (cond u (record { lower = x; upper = top x n; halvings = h }) (cond o p q))
+      (Along x n (h + 1) → IsBracket σ a b initial p) → (Along (middle x n) n (h + 1) → IsBracket σ a b initial q) →
+      IsBracket σ a b initial (cond u (record { lower = x; upper = top x n; halvings = h }) (cond o p q))
   choose x n h true o p q v e d f g = stopping x (suc n) h v (inr (rw (middle-is x n) e)) (stops-is x n σ ∙ e)
   choose x n h false true p q v e d f g = f (lower-half x n h v e d)
   choose x n h false false p q v e d f g = g (upper-half x n h v e d)
 
   -- every interval on the way ends in a bracket of the pair
-  ends-in : (n h : ℕ) (x : ℤ) → Along x n h → IsBracket σ a b (bisectOf σ n h x (x +ℤ pos (2 ^ n)))
+  ends-in : (n h : ℕ) (x : ℤ) → Along x n h → IsBracket σ a b initial (bisectOf σ n h x (x +ℤ pos (2 ^ n)))
   unfolding bisectOf
   ends-in zero h x v = stopping x zero h v (inl refl) (rw (up-less x 1))
   ends-in (suc n) h x v =
-      subst (IsBracket σ a b) (sym (step x n σ h))
+      subst (IsBracket σ a b initial) (sym (step x n σ h))
       (choose x n h (isUnknown (σ (middle x n))) (opposite (σ x) (σ (middle x n))) (bisectOf σ n (h + 1) x (middle x n)) (bisectOf σ n (h + 1) (middle x n) (top x n)) v refl refl
       (ends-in n (h + 1) x)
-      (λ w. subst (λ (z : ℤ). IsBracket σ a b (bisectOf σ n (h + 1) (middle x n) z)) (up-twice x n) (ends-in n (h + 1) (middle x n) w)))
+      (λ w. subst (λ (z : ℤ). IsBracket σ a b initial (bisectOf σ n (h + 1) (middle x n) z)) (up-twice x n) (ends-in n (h + 1) (middle x n) w)))
 
--- the bracket of a crossing is one
-pub bracket-holds : (σ : ℤ → Side) (i : ℕ) → crosses σ i ≡ true → IsBracket σ (stationOf i) (stationOf (i + 1)) (bracketOf σ i)
+-- the bracket of a crossing is one, in any grid that rises
+pub bracket-holds : (σ : ℤ → Side) (g : Grid) → IsRising g → (i : ℕ) → crosses σ g i ≡ true → IsBracket σ (g .place i) (g .place (i + 1)) (g .halvings i) (bracketOf σ g i)
 unfolding bracketOf crosses
-bracket-holds σ i e =
-    rw (next-station i)
-    (ends-in σ (stationOf i) (stationOf i +ℤ pos (2 ^ 20)) 20 0 (stationOf i)
+bracket-holds σ g r i e =
+    rw (r .next i)
+    (ends-in σ (g .place i) (g .place i +ℤ pos (2 ^ (20 - g .halvings i))) (g .halvings i) (20 - g .halvings i) (g .halvings i) (g .place i)
     (record {
       fromLower = 0;
-      lowerIs = sym (+ℤ-idr (stationOf i));
+      lowerIs = sym (+ℤ-idr (g .place i));
       toUpper = 0;
-      upperIs = sym (+ℤ-idr (stationOf i +ℤ pos (2 ^ 20)));
-      left = refl;
-      ends = rw (next-station i) at e;
+      upperIs = sym (+ℤ-idr (g .place i +ℤ pos (2 ^ (20 - g .halvings i))));
+      least = omega arith;
+      left = omega (arith, r .most i);
+      ends = rw (r .next i) at e;
       comes = start;
     }))
 
 -- ---- no other interval
 
-module _ (σ : ℤ → Side) (a : ℤ) where
+module _ (σ : ℤ → Side) (a : ℤ) (initial : ℕ) (few : initial ≤ 20) where
   -- the definition, at an interval that the halving comes to
   record Follows (x y : ℤ) (h : ℕ) : Type 0 where
     pub most : h ≤ 20
     pub width : y ≡ x +ℤ pos (2 ^ (20 - h))
-    pub goes : bisectOf σ 20 0 a (a +ℤ pos (2 ^ 20)) ≡ bisectOf σ (20 - h) h x y
+    pub goes : bisectOf σ (20 - initial) initial a (a +ℤ pos (2 ^ (20 - initial))) ≡ bisectOf σ (20 - h) h x y
 
   -- an interval that does not stop is wider than 1
   wider : (x y : ℤ) (h k : ℕ) → 20 - h ≡ k → y ≡ x +ℤ pos (2 ^ k) → stops σ x y ≡ false → h < 20
@@ -158,13 +162,13 @@ module _ (σ : ℤ → Side) (a : ℤ) where
           goes = v .goes ∙ next ∙ rw o;
         }
 
-  follows : (x y : ℤ) (h : ℕ) → Comes σ a (a +ℤ pos (2 ^ 20)) x y h → Follows x y h
-  follows x y h start = record { most = omega arith; width = refl; goes = refl }
+  follows : (x y : ℤ) (h : ℕ) → Comes σ a (a +ℤ pos (2 ^ (20 - initial))) initial x y h → Follows x y h
+  follows x y h start = record { most = few; width = refl; goes = refl }
   follows x y h (keeps-lower c s o) = lower-follows (follows _ _ _ c) s o
   follows x y h (keeps-upper c s o) = upper-follows (follows _ _ _ c) s o
 
   -- how wide an interval is that the halving comes to
-  pub width-at : (x y : ℤ) (h : ℕ) → Comes σ a (a +ℤ pos (2 ^ 20)) x y h → (h ≤ 20) × (y ≡ x +ℤ pos (2 ^ (20 - h)))
+  pub width-at : (x y : ℤ) (h : ℕ) → Comes σ a (a +ℤ pos (2 ^ (20 - initial))) initial x y h → (h ≤ 20) × (y ≡ x +ℤ pos (2 ^ (20 - h)))
   width-at x y h c = (follows x y h c .most, follows x y h c .width)
 
   at-stop : (n h : ℕ) (x y : ℤ) → stops σ x y ≡ true → bisectOf σ n h x y ≡ record { lower = x; upper = y; halvings = h }
@@ -172,21 +176,24 @@ module _ (σ : ℤ → Side) (a : ℤ) where
   at-stop zero h x y e = refl
   at-stop (suc n) h x y e = rw e
 
--- an interval that the halving of a pair comes to and stops at is the pair's bracket
-pub only-one : (σ : ℤ → Side) (i : ℕ) (x y : ℤ) (h : ℕ) → Comes σ (stationOf i) (stationOf (i + 1)) x y h → stops σ x y ≡ true → bracketOf σ i ≡ record { lower = x; upper = y; halvings = h }
-unfolding bracketOf
-only-one σ i x y h c e =
-    rw (next-station i)
-    (follows σ (stationOf i) x y h (subst (λ (z : ℤ). Comes σ (stationOf i) z x y h) (next-station i) c) .goes ∙ at-stop σ (stationOf i) (20 - h) h x y e)
+module _ (σ : ℤ → Side) (g : Grid) (r : IsRising g) (i : ℕ) (x y : ℤ) (h : ℕ) (c : Comes σ (g .place i) (g .place (i + 1)) (g .halvings i) x y h) where
+  moved : Comes σ (g .place i) (g .place i +ℤ pos (2 ^ (20 - g .halvings i))) (g .halvings i) x y h
+  moved = subst (λ (z : ℤ). Comes σ (g .place i) z (g .halvings i) x y h) (r .next i) c
 
--- every interval that the halving of a pair comes to has the width 2^(20−h); while it is wider than 1, its middle is halfway and strictly inside
-pub comes-width : (σ : ℤ → Side) (i : ℕ) (x y : ℤ) (h : ℕ) → Comes σ (stationOf i) (stationOf (i + 1)) x y h → (h ≤ 20) × (y ≡ x +ℤ pos (2 ^ (20 - h)))
-comes-width σ i x y h c = width-at σ (stationOf i) x y h (subst (λ (z : ℤ). Comes σ (stationOf i) z x y h) (next-station i) c)
+  -- an interval that the halving of a pair comes to and stops at is the pair's bracket
+  pub only-one : stops σ x y ≡ true → bracketOf σ g i ≡ record { lower = x; upper = y; halvings = h }
+  unfolding bracketOf
+  only-one e =
+      rw (r .next i)
+      (follows σ (g .place i) (g .halvings i) (r .most i) x y h moved .goes ∙ at-stop σ (g .place i) (g .halvings i) (r .most i) (20 - h) h x y e)
 
-pub comes-middle : (σ : ℤ → Side) (i : ℕ) (x y : ℤ) (h : ℕ) → Comes σ (stationOf i) (stationOf (i + 1)) x y h → h < 20 →
-    (middleOf x y ≡ x +ℤ pos (2 ^ (19 - h))) × (y ≡ middleOf x y +ℤ pos (2 ^ (19 - h)))
-comes-middle σ i x y h c l =
-    let e : 20 - h ≡ suc (19 - h) = omega (arith, l) in
-    let t : y ≡ top x (19 - h) = comes-width σ i x y h c .1 ∙ ap (λ (k : ℕ). x +ℤ pos (2 ^ k)) e in
-    let m : middleOf x y ≡ middle x (19 - h) = ap (middleOf x) t ∙ middle-is x (19 - h) in
-    (m, t ∙ sym (up-twice x (19 - h)) ∙ ap (λ (z : ℤ). z +ℤ pos (2 ^ (19 - h))) (sym m))
+  -- every interval that the halving of a pair comes to has the width 2^(20−h); while it is wider than 1, its middle is halfway and strictly inside
+  pub comes-width : (h ≤ 20) × (y ≡ x +ℤ pos (2 ^ (20 - h)))
+  comes-width = width-at σ (g .place i) (g .halvings i) (r .most i) x y h moved
+
+  pub comes-middle : h < 20 → (middleOf x y ≡ x +ℤ pos (2 ^ (19 - h))) × (y ≡ middleOf x y +ℤ pos (2 ^ (19 - h)))
+  comes-middle l =
+      let e : 20 - h ≡ suc (19 - h) = omega (arith, l) in
+      let t : y ≡ top x (19 - h) = comes-width .1 ∙ ap (λ (k : ℕ). x +ℤ pos (2 ^ k)) e in
+      let m : middleOf x y ≡ middle x (19 - h) = ap (middleOf x) t ∙ middle-is x (19 - h) in
+      (m, t ∙ sym (up-twice x (19 - h)) ∙ ap (λ (z : ℤ). z +ℤ pos (2 ^ (19 - h))) (sym m))

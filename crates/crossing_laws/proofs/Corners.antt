@@ -1,4 +1,4 @@
--- Sides word for word, and 01's corners: over any place at each k and any wanted time.
+-- Sides word for word, and 01's corners: over any place at each k, any wanted time and any grid.
 use mathlib.Core.Path.{_≡_, refl, sym}
 use mathlib.Core.Bool.{Bool, true, false, cond}
 use mathlib.Core.Logic.{_↔_}
@@ -13,7 +13,7 @@ use Rattle.flight_time.specs.declared.Place.the-variants.{Timed, Void}
 use Rattle.stations.specs.declared.side.Side.{Side}
 use Rattle.stations.specs.declared.side.Side.the-variants.{Below, NotBelow, Unknown}
 use Rattle.stations.specs.Sides.{sideOf, opposite, isUnknown}
-use Rattle.stations.specs.Stations.{stationOf}
+use Rattle.stations.specs.Grid.{Grid}
 use Rattle.bisection.specs.Pairs.{crosses}
 use Rattle.sweep.specs.Crossings.{sweepOf}
 use Rattle.crossing_laws.proofs.Theorems.{none-exactly}
@@ -73,54 +73,54 @@ none-below Unknown b f g = refl
 
 -- ---- corners: the place at each k, and the wanted time
 
-module _ (τ : ℤ → Place) (w : Float) where
-  -- the side of each place
-  abbrev pub sides : ℤ → Side
-  sides k = sideOf (τ k) w
+-- the side of each place
+abbrev pub sides : (ℤ → Place) → Float → ℤ → Side
+sides τ w k = sideOf (τ k) w
 
-  -- station i has a time below the wanted one, above it, or equal to it
+module _ (τ : ℤ → Place) (w : Float) (g : Grid) where
+  -- place i has a time below the wanted one, above it, or equal to it
   abbrev pub IsBelow : ℕ → Type 0
-  IsBelow i = TimedBelow (τ (stationOf i)) w
+  IsBelow i = TimedBelow (τ (g .place i)) w
 
   abbrev pub IsAbove : ℕ → Type 0
-  IsAbove i = (t : Float) × ((τ (stationOf i) ≡ Timed t) × ((w ≺ t) ≡ true))
+  IsAbove i = (t : Float) × ((τ (g .place i) ≡ Timed t) × ((w ≺ t) ≡ true))
 
   abbrev pub IsEqual : ℕ → Type 0
-  IsEqual i = (t : Float) × ((τ (stationOf i) ≡ Timed t) × ((t ≈ w) ≡ true))
+  IsEqual i = (t : Float) × ((τ (g .place i) ≡ Timed t) × ((t ≈ w) ≡ true))
 
-  on-below : (i : ℕ) → IsBelow i → sides (stationOf i) ≡ Below
-  on-below i h = below-exactly (τ (stationOf i)) w .1 h
+  on-below : (i : ℕ) → IsBelow i → sides τ w (g .place i) ≡ Below
+  on-below i h = below-exactly (τ (g .place i)) w .1 h
 
-  on-above : (i : ℕ) → IsAbove i → sides (stationOf i) ≡ NotBelow
-  on-above i h = not-below-exactly (τ (stationOf i)) w .1 (h .0, (h .1 .0, above-not-below (h .0) w (h .1 .1)))
+  on-above : (i : ℕ) → IsAbove i → sides τ w (g .place i) ≡ NotBelow
+  on-above i h = not-below-exactly (τ (g .place i)) w .1 (h .0, (h .1 .0, above-not-below (h .0) w (h .1 .1)))
 
-  on-equal : (i : ℕ) → IsEqual i → sides (stationOf i) ≡ NotBelow
-  on-equal i h = not-below-exactly (τ (stationOf i)) w .1 (h .0, (h .1 .0, equal-not-below (h .0) w (h .1 .1)))
+  on-equal : (i : ℕ) → IsEqual i → sides τ w (g .place i) ≡ NotBelow
+  on-equal i h = not-below-exactly (τ (g .place i)) w .1 (h .0, (h .1 .0, equal-not-below (h .0) w (h .1 .1)))
 
   -- a station equal to T* on a slope makes one crossing, not two
-  pub rising-slope : (i : ℕ) → IsBelow i → IsEqual (i + 1) → IsAbove (i + 1 + 1) → (crosses sides i ≡ true) × (crosses sides (i + 1) ≡ false)
+  pub rising-slope : (i : ℕ) → IsBelow i → IsEqual (i + 1) → IsAbove (i + 1 + 1) → (crosses (sides τ w) g i ≡ true) × (crosses (sides τ w) g (i + 1) ≡ false)
   unfolding crosses
   rising-slope i a b c = (rw (on-below i a, on-equal (i + 1) b), rw (on-equal (i + 1) b, on-above (i + 1 + 1) c))
 
-  pub falling-slope : (i : ℕ) → IsAbove i → IsEqual (i + 1) → IsBelow (i + 1 + 1) → (crosses sides i ≡ false) × (crosses sides (i + 1) ≡ true)
+  pub falling-slope : (i : ℕ) → IsAbove i → IsEqual (i + 1) → IsBelow (i + 1 + 1) → (crosses (sides τ w) g i ≡ false) × (crosses (sides τ w) g (i + 1) ≡ true)
   unfolding crosses
   falling-slope i a b c = (rw (on-above i a, on-equal (i + 1) b), rw (on-equal (i + 1) b, on-below (i + 1 + 1) c))
 
   -- a dip that only touches T* makes none
-  pub touching-dip : (i : ℕ) → IsAbove i → IsEqual (i + 1) → IsAbove (i + 1 + 1) → (crosses sides i ≡ false) × (crosses sides (i + 1) ≡ false)
+  pub touching-dip : (i : ℕ) → IsAbove i → IsEqual (i + 1) → IsAbove (i + 1 + 1) → (crosses (sides τ w) g i ≡ false) × (crosses (sides τ w) g (i + 1) ≡ false)
   unfolding crosses
   touching-dip i a b c = (rw (on-above i a, on-equal (i + 1) b), rw (on-equal (i + 1) b, on-above (i + 1 + 1) c))
 
   -- a single station equal to T* between two below makes two
-  pub equal-between : (i : ℕ) → IsBelow i → IsEqual (i + 1) → IsBelow (i + 1 + 1) → (crosses sides i ≡ true) × (crosses sides (i + 1) ≡ true)
+  pub equal-between : (i : ℕ) → IsBelow i → IsEqual (i + 1) → IsBelow (i + 1 + 1) → (crosses (sides τ w) g i ≡ true) × (crosses (sides τ w) g (i + 1) ≡ true)
   unfolding crosses
   equal-between i a b c = (rw (on-below i a, on-equal (i + 1) b), rw (on-equal (i + 1) b, on-below (i + 1 + 1) c))
 
   -- a last station equal to T* with none below makes none
-  pub equal-last : (last : ℕ) → IsEqual last → ((i : ℕ) → i ≤ last → IsBelow i → ⊥) → sweepOf sides last .count ≡ 0
+  pub equal-last : (last : ℕ) → IsEqual last → ((i : ℕ) → i ≤ last → IsBelow i → ⊥) → sweepOf (sides τ w) g last .count ≡ 0
   unfolding crosses
   equal-last last e f =
-      none-exactly sides last .1 (λ i h.
-      none-below (sides (stationOf i)) (sides (stationOf (i + 1)))
-      (λ a. f i (omega (arith, h)) (below-exactly (τ (stationOf i)) w .0 a))
-      (λ b. f (i + 1) (omega (arith, h)) (below-exactly (τ (stationOf (i + 1))) w .0 b)))
+      none-exactly (sides τ w) g last .1 (λ i h.
+      none-below (sides τ w (g .place i)) (sides τ w (g .place (i + 1)))
+      (λ a. f i (omega (arith, h)) (below-exactly (τ (g .place i)) w .0 a))
+      (λ b. f (i + 1) (omega (arith, h)) (below-exactly (τ (g .place (i + 1))) w .0 b)))

@@ -1,4 +1,5 @@
--- What the sweep's definition says, in words that a person can hold beside 01: over any side of each place, for the stations from 0 to `last`. The brackets' own theorems are `bracket-holds` and `only-one` in BracketLaws.
+-- What the sweep's definition says, in words that a person can hold beside 01: over any side of each place and any grid, for its places from 0 to `last`.
+-- The brackets' own theorems are `bracket-holds` and `only-one` in BracketLaws.
 use mathlib.Core.Path.{_≡_, refl, sym, ap, _∙_, subst}
 use mathlib.Core.Bool.{Bool, true, false}
 use mathlib.Core.Logic.{_⊎_, inl, inr, ⊎-elim, _↔_}
@@ -18,6 +19,7 @@ use Rattle.stations.specs.declared.side.Side.{Side}
 use Rattle.stations.specs.declared.side.Side.the-variants.{Below, NotBelow, Unknown}
 use Rattle.sweep.specs.declared.Walk.the-variants.{AllTimed, SomeVoid, NinthFound}
 use Rattle.stations.specs.Sides.{opposite, isUnknown}
+use Rattle.stations.specs.Grid.{Grid, IsRising}
 use Rattle.stations.specs.Stations.{stationOf, lastOf}
 use Rattle.bisection.specs.Pairs.{crosses, bracketOf}
 use Rattle.sweep.specs.Crossings.{upTo, some, crossings, someVoid, brackets, blank, walkOf, reported, sweepOf}
@@ -72,7 +74,7 @@ station-count = refl
 pub station-count-revolving : (m : ℕ) → 1 ≤ m → lastOf m + 1 ≡ 8191
 station-count-revolving m h = ap (λ (n : ℕ). n + 1) (revolving m h)
 
--- ---- a crossing: both stations have times, on different sides
+-- ---- a crossing: both places have times, on different sides
 
 sides-differ : (a b : Side) → opposite a b ≡ true → a ≡ b → ⊥
 sides-differ Below NotBelow e d = absurd (let z : _≡_ {A = ℕ} 0 1 = cc d in omega (arith, z))
@@ -87,13 +89,13 @@ opposite-by : (a b : Side) (o : Bool) → opposite a b ≡ o → isUnknown a ≡
 opposite-by a b true e p q d = refl
 opposite-by a b false e p q d = absurd (d (same-side a b p q e))
 
-pub crosses-exactly : (σ : ℤ → Side) (i : ℕ) →
-    (crosses σ i ≡ true)
-    ↔ ((isUnknown (σ (stationOf i)) ≡ false) × (isUnknown (σ (stationOf (i + 1))) ≡ false) × (σ (stationOf i) ≡ σ (stationOf (i + 1)) → ⊥))
+pub crosses-exactly : (σ : ℤ → Side) (g : Grid) (i : ℕ) →
+    (crosses σ g i ≡ true)
+    ↔ ((isUnknown (σ (g .place i)) ≡ false) × (isUnknown (σ (g .place (i + 1))) ≡ false) × (σ (g .place i) ≡ σ (g .place (i + 1)) → ⊥))
 unfolding crosses
-crosses-exactly σ i =
-    let a = σ (stationOf i) in
-    let b = σ (stationOf (i + 1)) in (
+crosses-exactly σ g i =
+    let a = σ (g .place i) in
+    let b = σ (g .place (i + 1)) in (
       λ e. (lower-known a b e, upper-known a b e, sides-differ a b e),
       λ h. opposite-by a b (opposite a b) refl (h .0) (h .1) (h .2),
     )
@@ -158,149 +160,152 @@ rising-at (suc e) (suc f) (x ∷ xs) r l h = rising-at e f xs (r .1) (omega arit
 
 -- ---- brackets of different pairs
 
-stations-up : (i n : ℕ) → stationOf (i + n) ≡ stationOf i +ℤ pos (n * 2 ^ 20)
-stations-up i zero = rw add-zero (sym (+ℤ-idr (stationOf i)))
-stations-up i (suc n) =
-    let s : n * 2 ^ 20 + 2 ^ 20 ≡ suc n * 2 ^ 20 = omega arith in
-    ap stationOf (sym (add-assoc i n 1 ∙ ap (λ (k : ℕ). i + k) (add-one n)))
-    ∙ next-station (i + n)
-    ∙ ap (λ (z : ℤ). z +ℤ pos (2 ^ 20)) (stations-up i n)
-    ∙ +ℤ-assoc (stationOf i) (pos (n * 2 ^ 20)) (pos (2 ^ 20))
-    ∙ ap (λ (k : ℕ). stationOf i +ℤ pos k) s
-
-pairs-rise : (σ : ℤ → Side) (i j : ℕ) → i < j → crosses σ i ≡ true → crosses σ j ≡ true → (d : ℕ) × (bracketOf σ j .lower ≡ bracketOf σ i .upper +ℤ pos d)
-pairs-rise σ i j l p q =
-    let a = bracket-holds σ i p in
-    let b = bracket-holds σ j q in
-    let n : ℕ = j - (i + 1) in
-    let e : j ≡ i + 1 + n = omega (arith, l) in (
-      a .toUpper + n * 2 ^ 20 + b .fromLower,
-      b .lowerIs
-          ∙ ap (λ (z : ℤ). z +ℤ pos (b .fromLower)) (ap stationOf e ∙ stations-up (i + 1) n ∙ ap (λ (z : ℤ). z +ℤ pos (n * 2 ^ 20)) (a .upperIs) ∙ +ℤ-assoc (bracketOf σ i .upper) (pos (a .toUpper)) (pos (n * 2 ^ 20)))
-          ∙ +ℤ-assoc (bracketOf σ i .upper) (pos (a .toUpper + n * 2 ^ 20)) (pos (b .fromLower)),
+places-up : (g : Grid) → IsRising g → (i n : ℕ) → (d : ℕ) × (g .place (i + n) ≡ g .place i +ℤ pos d)
+places-up g r i zero = (0, rw add-zero (sym (+ℤ-idr (g .place i))))
+places-up g r i (suc n) =
+    let u = places-up g r i n in
+    let w : ℕ = 2 ^ (20 - g .halvings (i + n)) in (
+      u .0 + w,
+      ap (g .place) (sym (add-assoc i n 1 ∙ ap (λ (k : ℕ). i + k) (add-one n)))
+          ∙ r .next (i + n)
+          ∙ ap (λ (z : ℤ). z +ℤ pos w) (u .1)
+          ∙ +ℤ-assoc (g .place i) (pos (u .0)) (pos w),
     )
 
-module _ (σ : ℤ → Side) (last : ℕ) where
+pairs-rise : (σ : ℤ → Side) (g : Grid) → IsRising g → (i j : ℕ) → i < j → crosses σ g i ≡ true → crosses σ g j ≡ true → (d : ℕ) × (bracketOf σ g j .lower ≡ bracketOf σ g i .upper +ℤ pos d)
+pairs-rise σ g r i j l p q =
+    let a = bracket-holds σ g r i p in
+    let b = bracket-holds σ g r j q in
+    let n : ℕ = j - (i + 1) in
+    let u = places-up g r (i + 1) n in
+    let e : j ≡ i + 1 + n = omega (arith, l) in (
+      a .toUpper + u .0 + b .fromLower,
+      b .lowerIs
+          ∙ ap (λ (z : ℤ). z +ℤ pos (b .fromLower)) (ap (g .place) e ∙ u .1 ∙ ap (λ (z : ℤ). z +ℤ pos (u .0)) (a .upperIs) ∙ +ℤ-assoc (bracketOf σ g i .upper) (pos (a .toUpper)) (pos (u .0)))
+          ∙ +ℤ-assoc (bracketOf σ g i .upper) (pos (a .toUpper + u .0)) (pos (b .fromLower)),
+    )
+
+module _ (σ : ℤ → Side) (g : Grid) (last : ℕ) where
   -- among all crossings a pair stands exactly when it crosses
-  pub listed-exactly : (i : ℕ) → Listed i (crossings σ last) ↔ ((i < last) × (crosses σ i ≡ true))
+  pub listed-exactly : (i : ℕ) → Listed i (crossings σ g last) ↔ ((i < last) × (crosses σ g i ≡ true))
   unfolding crossings
   listed-exactly i = (
-    λ h. (listed-up i last (kept (crosses σ) i (upTo last) h .0), kept (crosses σ) i (upTo last) h .1),
-    λ h. keeps (crosses σ) i (upTo last) (h .1) (up-listed i last (h .0)),
+    λ h. (listed-up i last (kept (crosses σ g) i (upTo last) h .0), kept (crosses σ g) i (upTo last) h .1),
+    λ h. keeps (crosses σ g) i (upTo last) (h .1) (up-listed i last (h .0)),
   )
 
   -- they rise
-  pub rises : Rising (crossings σ last)
+  pub rises : Rising (crossings σ g last)
   unfolding crossings
-  rises = rising-keep (crosses σ) (upTo last) (rising-up last)
+  rises = rising-keep (crosses σ g) (upTo last) (rising-up last)
 
   -- as many brackets as crossings
-  pub length-is : length (brackets σ last) ≡ length (crossings σ last)
+  pub length-is : length (brackets σ g last) ≡ length (crossings σ g last)
   unfolding brackets
-  length-is = length-map (crossings σ last) (bracketOf σ)
+  length-is = length-map (crossings σ g last) (bracketOf σ g)
 
   -- the count is the number of crossings, where that is at most eight, and eight where it is more
-  pub counted : sweepOf σ last .count ≡ min 8 (length (crossings σ last))
+  pub counted : sweepOf σ g last .count ≡ min 8 (length (crossings σ g last))
   unfolding sweepOf reported
   counted = ap (min 8) length-is
 
   -- eight places: the used ones hold the brackets of the crossings, in their order, and the others zeros
-  pub eight-places : length (sweepOf σ last .list) ≡ 8
+  pub eight-places : length (sweepOf σ g last .list) ≡ 8
   unfolding sweepOf reported
   eight-places =
-      let t = take 8 (brackets σ last) in
+      let t = take 8 (brackets σ g last) in
       length-append t (replicate (8 - length t) blank)
       ∙ ap (λ (k : ℕ). length t + k) (length-replicate (8 - length t) blank)
-      ∙ omega (arith, length-take 8 (brackets σ last))
+      ∙ omega (arith, length-take 8 (brackets σ g last))
 
-  pub in-order : (e : ℕ) → e < sweepOf σ last .count → getD (sweepOf σ last .list) e blank ≡ bracketOf σ (getD (crossings σ last) e 0)
+  pub in-order : (e : ℕ) → e < sweepOf σ g last .count → getD (sweepOf σ g last .list) e blank ≡ bracketOf σ g (getD (crossings σ g last) e 0)
   unfolding sweepOf reported brackets
   in-order e h =
-      let few : e < length (take 8 (brackets σ last)) = rw (length-take 8 (brackets σ last)) h in
+      let few : e < length (take 8 (brackets σ g last)) = rw (length-take 8 (brackets σ g last)) h in
       let below : e < 8 = omega (arith, h) in
-      let some : e < length (brackets σ last) = omega (arith, h) in
-      List·getD-append (take 8 (brackets σ last)) _ blank e few
-      ∙ getD-take 8 (brackets σ last) e blank below
-      ∙ any-default (brackets σ last) e blank (bracketOf σ 0) some
-      ∙ List·getD-map (bracketOf σ) (crossings σ last) e 0
+      let some : e < length (brackets σ g last) = omega (arith, h) in
+      List·getD-append (take 8 (brackets σ g last)) _ blank e few
+      ∙ getD-take 8 (brackets σ g last) e blank below
+      ∙ any-default (brackets σ g last) e blank (bracketOf σ g 0) some
+      ∙ List·getD-map (bracketOf σ g) (crossings σ g last) e 0
 
-  pub all-listed : length (crossings σ last) ≤ 8 → take (sweepOf σ last .count) (sweepOf σ last .list) ≡ brackets σ last
+  pub all-listed : length (crossings σ g last) ≤ 8 → take (sweepOf σ g last .count) (sweepOf σ g last .list) ≡ brackets σ g last
   unfolding sweepOf reported
   all-listed h =
-      let few : length (brackets σ last) ≤ 8 = omega (arith, length-is, h) in
-      let count : min 8 (length (brackets σ last)) ≡ length (brackets σ last) = omega (arith, few) in
-      rw (take-all 8 (brackets σ last) few, count) (take-append-seam (brackets σ last) (replicate (8 - length (brackets σ last)) blank))
+      let few : length (brackets σ g last) ≤ 8 = omega (arith, length-is, h) in
+      let count : min 8 (length (brackets σ g last)) ≡ length (brackets σ g last) = omega (arith, few) in
+      rw (take-all 8 (brackets σ g last) few, count) (take-append-seam (brackets σ g last) (replicate (8 - length (brackets σ g last)) blank))
 
-  pub unused : (e : ℕ) → sweepOf σ last .count ≤ e → getD (sweepOf σ last .list) e blank ≡ blank
+  pub unused : (e : ℕ) → sweepOf σ g last .count ≤ e → getD (sweepOf σ g last .list) e blank ≡ blank
   unfolding sweepOf reported
-  unused e h = padded (take 8 (brackets σ last)) (8 - length (take 8 (brackets σ last))) e (rw (length-take 8 (brackets σ last)) h)
+  unused e h = padded (take 8 (brackets σ g last)) (8 - length (take 8 (brackets σ g last))) e (rw (length-take 8 (brackets σ g last)) h)
 
   -- every used place holds the bracket of a pair that crosses; and where there are at most eight crossings, each has its place
-  pub only-crossings : (e : ℕ) → e < sweepOf σ last .count → (i : ℕ) × ((i < last) × (crosses σ i ≡ true) × (getD (sweepOf σ last .list) e blank ≡ bracketOf σ i))
+  pub only-crossings : (e : ℕ) → e < sweepOf σ g last .count → (i : ℕ) × ((i < last) × (crosses σ g i ≡ true) × (getD (sweepOf σ g last .list) e blank ≡ bracketOf σ g i))
   only-crossings e h =
-      let l : e < length (crossings σ last) = omega (arith, h, counted) in
-      let c = listed-exactly (getD (crossings σ last) e 0) .0 (listed-at e (crossings σ last) l) in
-      (getD (crossings σ last) e 0, (c .0, c .1, in-order e h))
+      let l : e < length (crossings σ g last) = omega (arith, h, counted) in
+      let c = listed-exactly (getD (crossings σ g last) e 0) .0 (listed-at e (crossings σ g last) l) in
+      (getD (crossings σ g last) e 0, (c .0, c .1, in-order e h))
 
-  pub every-crossing : length (crossings σ last) ≤ 8 → (i : ℕ) → i < last → crosses σ i ≡ true → (e : ℕ) × ((e < sweepOf σ last .count) × (getD (sweepOf σ last .list) e blank ≡ bracketOf σ i))
+  pub every-crossing : length (crossings σ g last) ≤ 8 → (i : ℕ) → i < last → crosses σ g i ≡ true → (e : ℕ) × ((e < sweepOf σ g last .count) × (getD (sweepOf σ g last .list) e blank ≡ bracketOf σ g i))
   every-crossing few i h y =
-      let p = at-listed i (crossings σ last) (listed-exactly i .1 (h, y)) in
-      let b : p .0 < sweepOf σ last .count = rw counted (omega (arith, p .1 .0, few)) in
-      (p .0, (b, in-order (p .0) b ∙ ap (bracketOf σ) (p .1 .1)))
+      let p = at-listed i (crossings σ g last) (listed-exactly i .1 (h, y)) in
+      let b : p .0 < sweepOf σ g last .count = rw counted (omega (arith, p .1 .0, few)) in
+      (p .0, (b, in-order (p .0) b ∙ ap (bracketOf σ g) (p .1 .1)))
 
   -- the places rise in x: the upper end of one is at most the lower end of any later one
-  pub places-rise : (e f : ℕ) → e < f → f < sweepOf σ last .count →
-      (d : ℕ) × (getD (sweepOf σ last .list) f blank .lower ≡ getD (sweepOf σ last .list) e blank .upper +ℤ pos d)
-  places-rise e f l h =
-      let k : f < length (crossings σ last) = omega (arith, h, counted) in
-      let i = getD (crossings σ last) e 0 in
-      let j = getD (crossings σ last) f 0 in
-      let lower : e < sweepOf σ last .count = omega (arith, l, h) in
-      let near : e < length (crossings σ last) = omega (arith, l, k) in
-      let r = pairs-rise σ i j (rising-at e f (crossings σ last) rises l k) (listed-exactly i .0 (listed-at e (crossings σ last) near) .1) (listed-exactly j .0 (listed-at f (crossings σ last) k) .1) in
+  pub places-rise : IsRising g → (e f : ℕ) → e < f → f < sweepOf σ g last .count →
+      (d : ℕ) × (getD (sweepOf σ g last .list) f blank .lower ≡ getD (sweepOf σ g last .list) e blank .upper +ℤ pos d)
+  places-rise w e f l h =
+      let k : f < length (crossings σ g last) = omega (arith, h, counted) in
+      let i = getD (crossings σ g last) e 0 in
+      let j = getD (crossings σ g last) f 0 in
+      let lower : e < sweepOf σ g last .count = omega (arith, l, h) in
+      let near : e < length (crossings σ g last) = omega (arith, l, k) in
+      let r = pairs-rise σ g w i j (rising-at e f (crossings σ g last) rises l k) (listed-exactly i .0 (listed-at e (crossings σ g last) near) .1) (listed-exactly j .0 (listed-at f (crossings σ g last) k) .1) in
       (r .0, rw (in-order e lower, in-order f h) (r .1))
 
   -- a ninth is reported exactly when there are more than eight
-  pub ninth-exactly : (sweepOf σ last .walk ≡ NinthFound) ↔ (8 < length (crossings σ last))
+  pub ninth-exactly : (sweepOf σ g last .walk ≡ NinthFound) ↔ (8 < length (crossings σ g last))
   unfolding sweepOf reported
   ninth-exactly = (
-    λ e. subst (λ (n : ℕ). 8 < n) length-is (ltb-true 8 (length (brackets σ last)) (walk-ninth _ (someVoid σ last) e)),
-    λ h. rw (length-is, lt-ltb 8 (length (crossings σ last)) h),
+    λ e. subst (λ (n : ℕ). 8 < n) length-is (ltb-true 8 (length (brackets σ g last)) (walk-ninth _ (someVoid σ g last) e)),
+    λ h. rw (length-is, lt-ltb 8 (length (crossings σ g last)) h),
   )
 
-  -- some station is void: exactly that, over all stations, wherever there is no ninth crossing
-  pub void-at : (i : ℕ) → i ≤ last → isUnknown (σ (stationOf i)) ≡ true → someVoid σ last ≡ true
+  -- some place is void: exactly that, over all places, wherever there is no ninth crossing
+  pub void-at : (i : ℕ) → i ≤ last → isUnknown (σ (g .place i)) ≡ true → someVoid σ g last ≡ true
   unfolding someVoid
-  void-at i h e = some-yes (λ j. isUnknown (σ (stationOf j))) i (upTo (last + 1)) (up-listed i (last + 1) (omega arith)) e
+  void-at i h e = some-yes (λ j. isUnknown (σ (g .place j))) i (upTo (last + 1)) (up-listed i (last + 1) (omega arith)) e
 
-  pub at-void : someVoid σ last ≡ true → (i : ℕ) × ((i ≤ last) × (isUnknown (σ (stationOf i)) ≡ true))
+  pub at-void : someVoid σ g last ≡ true → (i : ℕ) × ((i ≤ last) × (isUnknown (σ (g .place i)) ≡ true))
   unfolding someVoid
   at-void e =
-      let f = some-found (λ j. isUnknown (σ (stationOf j))) (upTo (last + 1)) e in
+      let f = some-found (λ j. isUnknown (σ (g .place j))) (upTo (last + 1)) e in
       let k : f .0 < last + 1 = listed-up (f .0) (last + 1) (f .1 .0) in
       (f .0, (omega (arith, k), f .1 .1))
 
   abbrev ninth : Bool
-  ninth = ltb 8 (length (brackets σ last))
+  ninth = ltb 8 (length (brackets σ g last))
 
-  few : ninth ≡ false → length (crossings σ last) ≤ 8
-  few e = subst (λ (n : ℕ). n ≤ 8) length-is (ltb-false 8 (length (brackets σ last)) e)
+  few : ninth ≡ false → length (crossings σ g last) ≤ 8
+  few e = subst (λ (n : ℕ). n ≤ 8) length-is (ltb-false 8 (length (brackets σ g last)) e)
 
-  pub void-exactly : (sweepOf σ last .walk ≡ SomeVoid) ↔ ((length (crossings σ last) ≤ 8) × ((i : ℕ) × ((i ≤ last) × (isUnknown (σ (stationOf i)) ≡ true))))
+  pub void-exactly : (sweepOf σ g last .walk ≡ SomeVoid) ↔ ((length (crossings σ g last) ≤ 8) × ((i : ℕ) × ((i ≤ last) × (isUnknown (σ (g .place i)) ≡ true))))
   unfolding sweepOf reported
   void-exactly = (
-    λ e. (few (walk-void ninth (someVoid σ last) e .0), at-void (walk-void ninth (someVoid σ last) e .1)),
-    λ h. rw (length-is, le-ltb 8 (length (crossings σ last)) (h .0), void-at (h .1 .0) (h .1 .1 .0) (h .1 .1 .1)),
+    λ e. (few (walk-void ninth (someVoid σ g last) e .0), at-void (walk-void ninth (someVoid σ g last) e .1)),
+    λ h. rw (length-is, le-ltb 8 (length (crossings σ g last)) (h .0), void-at (h .1 .0) (h .1 .1 .0) (h .1 .1 .1)),
   )
 
-  pub timed-exactly : (sweepOf σ last .walk ≡ AllTimed) ↔ ((length (crossings σ last) ≤ 8) × ((i : ℕ) → i ≤ last → isUnknown (σ (stationOf i)) ≡ false))
+  pub timed-exactly : (sweepOf σ g last .walk ≡ AllTimed) ↔ ((length (crossings σ g last) ≤ 8) × ((i : ℕ) → i ≤ last → isUnknown (σ (g .place i)) ≡ false))
   unfolding sweepOf reported
   timed-exactly = (
     λ e. (
-      few (walk-timed ninth (someVoid σ last) e .0),
-      λ i h. false-by (isUnknown (σ (stationOf i))) (λ u. clash (void-at i h u) (walk-timed ninth (someVoid σ last) e .1)),
+      few (walk-timed ninth (someVoid σ g last) e .0),
+      λ i h. false-by (isUnknown (σ (g .place i))) (λ u. clash (void-at i h u) (walk-timed ninth (someVoid σ g last) e .1)),
     ),
-    λ h. rw (length-is, le-ltb 8 (length (crossings σ last)) (h .0), false-by (someVoid σ last) (λ e. clash (at-void e .1 .1) (h .1 (at-void e .0) (at-void e .1 .0)))),
+    λ h. rw (length-is, le-ltb 8 (length (crossings σ g last)) (h .0), false-by (someVoid σ g last) (λ e. clash (at-void e .1 .1) (h .1 (at-void e .0) (at-void e .1 .0)))),
   )
 
   -- no place is used exactly when no pair crosses
@@ -314,12 +319,12 @@ module _ (σ : ℤ → Side) (last : ℕ) where
   not-listed i [] e h = h
   not-listed i (x ∷ xs) e h = omega (arith, e)
 
-  pub none-exactly : (sweepOf σ last .count ≡ 0) ↔ ((i : ℕ) → i < last → crosses σ i ≡ false)
+  pub none-exactly : (sweepOf σ g last .count ≡ 0) ↔ ((i : ℕ) → i < last → crosses σ g i ≡ false)
   none-exactly = (
     λ e i h.
-        let z : length (crossings σ last) ≡ 0 = omega (arith, counted, e) in
-        false-by (crosses σ i) (λ y. not-listed i (crossings σ last) z (listed-exactly i .1 (h, y))),
+        let z : length (crossings σ g last) ≡ 0 = omega (arith, counted, e) in
+        false-by (crosses σ g i) (λ y. not-listed i (crossings σ g last) z (listed-exactly i .1 (h, y))),
     λ f.
-        let z : length (crossings σ last) ≡ 0 = empty-by (crossings σ last) (λ i h. clash (listed-exactly i .0 h .1) (f i (listed-exactly i .0 h .0))) in
+        let z : length (crossings σ g last) ≡ 0 = empty-by (crossings σ g last) (λ i h. clash (listed-exactly i .0 h .1) (f i (listed-exactly i .0 h .0))) in
         omega (arith, counted, z),
   )

@@ -22,17 +22,17 @@ use Rattle.stations.specs.Sides.{sideOf, sideAt, opposite, isUnknown}
 use Rattle.stations.specs.declared.side.Side.{Side}
 use Rattle.stations.specs.declared.side.Side.the-variants.{Below, NotBelow, Unknown}
 use Rattle.bisection.proofs.Halving.{lower-known, upper-known}
-use Rattle.stations.specs.Stations.{stationOf}
 use Rattle.bisection.specs.Pairs.{crosses, bracketOf}
 use Rattle.sweep.specs.Crossings.{crossings, brackets}
 use Rattle.crossing_laws.specs.Brackets.{IsBracket}
 use Rattle.crossing_laws.specs.Listed.{Listed}
 use Rattle.bisection.specs.declared.Bracket.{Bracket}
 use Rattle.crossing_laws.proofs.AnyTriangle.{known-finite}
+use Rattle.stations.proofs.Grids.{grid-rises}
 use Rattle.crossing_laws.proofs.BracketLaws.{bracket-holds}
 use Rattle.velocity.specs.Chosen.{upperChosen, velocitiesFinite}
 use Rattle.entries.specs.Entries.{placeOf, upperOf, takesUpper, velocitiesAt, velocitiesFor, finiteFor, endNumber, entryFor, every}
-use Rattle.solution.specs.Crossed.{sidesOf, lastStation, bracketsOf, entriesOf}
+use Rattle.solution.specs.Crossed.{sidesOf, gridOf, lastPlace, bracketsOf, entriesOf}
 use Rattle.demand.specs.Demand.{Counts, pairsOf, bracketAt, entryAt, entryFinite, ChosenBy}
 
 -- ---- bytes
@@ -96,7 +96,7 @@ void-by (Timed t) w e = timed (t ≺ w) e
 module _ (p : Problem) where
   pub entries-pairs : entriesOf p ≡ map (entryAt p) (pairsOf p)
   unfolding entriesOf bracketsOf brackets
-  entries-pairs = map-twice (entryFor p) (bracketOf (sidesOf p)) (pairsOf p)
+  entries-pairs = map-twice (entryFor p) (bracketOf (sidesOf p) (gridOf p)) (pairsOf p)
 
   each-of : (xs : List ℕ) → every (finiteFor p) (map (bracketAt p) xs) ≡ true → (i : ℕ) → Listed i xs → finiteFor p (bracketAt p i) ≡ true
   unfolding every Listed
@@ -159,28 +159,28 @@ module _ (p : Problem) where
   pub at-void : (k : ℤ) → isUnknown (sidesOf p k) ≡ true → placeOf p k ≡ Void
   at-void k e = void-by (placeOf p k) (p .wanted) (sym (ap isUnknown (side-is k)) ∙ e)
 
-  pub counts-crosses : (i : ℕ) → Counts p i → crosses (sidesOf p) i ≡ true
+  pub counts-crosses : (i : ℕ) → Counts p i → crosses (sidesOf p) (gridOf p) i ≡ true
   unfolding crosses
-  counts-crosses i c = rw (side-at (stationOf i) (c .lowerTime) (c .lowerIs), side-at (stationOf (i + 1)) (c .upperTime) (c .upperIs)) (different (c .lowerTime ≺ p .wanted) (c .upperTime ≺ p .wanted) (c .apart))
+  counts-crosses i c = rw (side-at (gridOf p .place i) (c .lowerTime) (c .lowerIs), side-at (gridOf p .place (i + 1)) (c .upperTime) (c .upperIs)) (different (c .lowerTime ≺ p .wanted) (c .upperTime ≺ p .wanted) (c .apart))
 
-  pub crosses-counts : (i : ℕ) → i < lastStation p → crosses (sidesOf p) i ≡ true → Counts p i
+  pub crosses-counts : (i : ℕ) → i < lastPlace p → crosses (sidesOf p) (gridOf p) i ≡ true → Counts p i
   unfolding crosses
   crosses-counts i h e =
-      let x = timed-at (stationOf i) (lower-known (sidesOf p (stationOf i)) (sidesOf p (stationOf (i + 1))) e) in
-      let y = timed-at (stationOf (i + 1)) (upper-known (sidesOf p (stationOf i)) (sidesOf p (stationOf (i + 1))) e) in
+      let x = timed-at (gridOf p .place i) (lower-known (sidesOf p (gridOf p .place i)) (sidesOf p (gridOf p .place (i + 1))) e) in
+      let y = timed-at (gridOf p .place (i + 1)) (upper-known (sidesOf p (gridOf p .place i)) (sidesOf p (gridOf p .place (i + 1))) e) in
       record {
         within = h;
         lowerTime = x .0;
         upperTime = y .0;
         lowerIs = x .1 .0;
         upperIs = y .1 .0;
-        apart = differ (x .0 ≺ p .wanted) (y .0 ≺ p .wanted) (moved (side-at (stationOf i) (x .0) (x .1 .0)) (side-at (stationOf (i + 1)) (y .0) (y .1 .0)) e);
+        apart = differ (x .0 ≺ p .wanted) (y .0 ≺ p .wanted) (moved (side-at (gridOf p .place i) (x .0) (x .1 .0)) (side-at (gridOf p .place (i + 1)) (y .0) (y .1 .0)) e);
       }
 
   -- ---- the bracket and the chosen end of a pair
 
-  pub bracket-of : (i : ℕ) → Counts p i → IsBracket (sidesOf p) (stationOf i) (stationOf (i + 1)) (bracketAt p i)
-  bracket-of i h = bracket-holds (sidesOf p) i (counts-crosses i h)
+  pub bracket-of : (i : ℕ) → Counts p i → IsBracket (sidesOf p) (gridOf p .place i) (gridOf p .place (i + 1)) (gridOf p .halvings i) (bracketAt p i)
+  bracket-of i h = bracket-holds (sidesOf p) (gridOf p) (grid-rises (p .triangle) (p .revolutions)) i (counts-crosses i h)
 
   takes-is : (r : Bracket) (a b : Float) → placeOf p (r .lower) ≡ Timed a → placeOf p (r .upper) ≡ Timed b → takesUpper p r ≡ upperChosen a b (p .wanted)
   unfolding takesUpper

@@ -24,16 +24,16 @@ use Rattle.entrance.specs.declared.Judged.the-variants.{Refused, Accepted}
 use Rattle.entrance.proofs.Table.{Rising, none, more, UpTo, above, first-is, is-first, none-first, first-none, accepted-exactly, accepted-room}
 use Rattle.bound_laws.proofs.Past.{past-bounds}
 use Rattle.stations.specs.Sides.{isUnknown}
-use Rattle.stations.specs.Stations.{stationOf}
 use Rattle.crossing_laws.specs.Listed.{Listed}
 use Rattle.crossing_laws.proofs.Corners.{no-place}
 use Rattle.bisection.specs.Pairs.{crosses}
 use Rattle.sweep.specs.Crossings.{crossings}
-use Rattle.crossing_laws.proofs.Theorems.{clash, false-by, neighbours, listed-exactly, rises, counted, none-exactly, void-at as some-at, at-void as some-void}
+use Rattle.crossing_laws.proofs.Theorems.{clash, false-by, listed-exactly, rises, counted, none-exactly, void-at as some-at, at-void as some-void}
+use Rattle.stations.proofs.Grids.{grid-rises}
 use Rattle.solution.specs.declared.Outcome.{Outcome}
 use Rattle.solution.specs.declared.Outcome.the-variants.{Refused, Answered}
 use Rattle.entries.specs.Entries.{entryFor, finiteFor, every}
-use Rattle.solution.specs.Crossed.{sidesOf, lastStation, entriesOf}
+use Rattle.solution.specs.Crossed.{sidesOf, gridOf, lastPlace, entriesOf}
 use Rattle.solution.specs.Table.{crossingCount, anyVoid, allFinite, lateChecks}
 use Rattle.solution.specs.Solve.{Solved, refused, answered, settledOf, after, solveOf}
 use Rattle.demand.specs.Demand.{problemFrom, tableOf, rowOf, HasAnswer, Demand1, Past, Counts, pairsOf, bracketAt, entryAt, FiniteAll, FiniteNot, TimedAll, VoidSome, NonePair, Pairs, Answer, Demand3}
@@ -163,7 +163,7 @@ module _ (s b : List ℕ) where
     -- the tests in the demand's words
     pair-listed : (i : ℕ) → Exactly (Listed i (pairsOf p)) (Counts p i)
     pair-listed i =
-        let l = listed-exactly (sidesOf p) (lastStation p) i in
+        let l = listed-exactly (sidesOf p) (gridOf p) (lastPlace p) i in
         record {
           only = λ h. crosses-counts p i (l .0 h .0) (l .0 h .1);
           always = λ c. l .1 (c .within, counts-crosses p i c);
@@ -171,29 +171,29 @@ module _ (s b : List ℕ) where
 
     no-pairs : C ≡ 0 → NonePair p
     no-pairs e i c =
-        let z : crosses (sidesOf p) i ≡ false = none-exactly (sidesOf p) (lastStation p) .0 (omega (arith, e, counted (sidesOf p) (lastStation p))) i (c .within) in
+        let z : crosses (sidesOf p) (gridOf p) i ≡ false = none-exactly (sidesOf p) (gridOf p) (lastPlace p) .0 (omega (arith, e, counted (sidesOf p) (gridOf p) (lastPlace p))) i (c .within) in
         clash (counts-crosses p i c) z
 
     pairs-none : NonePair p → C ≡ 0
     pairs-none f =
-        omega (arith, counted (sidesOf p) (lastStation p), none-exactly (sidesOf p) (lastStation p) .1 (λ i h. false-by (crosses (sidesOf p) i) (λ y. f i (crosses-counts p i h y))))
+        omega (arith, counted (sidesOf p) (gridOf p) (lastPlace p), none-exactly (sidesOf p) (gridOf p) (lastPlace p) .1 (λ i h. false-by (crosses (sidesOf p) (gridOf p) i) (λ y. f i (crosses-counts p i h y))))
 
     some-pairs : eqb C 0 ≡ false → 1 ≤ C
     some-pairs e = lt-of-not-le (λ h. eqb-false C 0 e (omega (arith, h)))
 
     all-timed : anyVoid p ≡ false → TimedAll p
     all-timed e i h =
-        let t = timed-at p (stationOf i) (false-by (isUnknown (sidesOf p (stationOf i))) (λ u. clash (some-at (sidesOf p) (lastStation p) i h u) e)) in
+        let t = timed-at p (gridOf p .place i) (false-by (isUnknown (sidesOf p (gridOf p .place i))) (λ u. clash (some-at (sidesOf p) (gridOf p) (lastPlace p) i h u) e)) in
         (t .0, t .1 .0)
 
     timed-all : TimedAll p → anyVoid p ≡ false
-    timed-all f = false-by (anyVoid p) (λ e. let v = some-void (sidesOf p) (lastStation p) e in no-place (sym (at-void p (stationOf (v .0)) (v .1 .1)) ∙ f (v .0) (v .1 .0) .1))
+    timed-all f = false-by (anyVoid p) (λ e. let v = some-void (sidesOf p) (gridOf p) (lastPlace p) e in no-place (sym (at-void p (gridOf p .place (v .0)) (v .1 .1)) ∙ f (v .0) (v .1 .0) .1))
 
     void-some : anyVoid p ≡ true → VoidSome p
-    void-some e = let v = some-void (sidesOf p) (lastStation p) e in (v .0, (v .1 .0, at-void p (stationOf (v .0)) (v .1 .1)))
+    void-some e = let v = some-void (sidesOf p) (gridOf p) (lastPlace p) e in (v .0, (v .1 .0, at-void p (gridOf p .place (v .0)) (v .1 .1)))
 
     some-void-of : VoidSome p → anyVoid p ≡ true
-    some-void-of h = some-at (sidesOf p) (lastStation p) (h .0) (h .1 .0) (void-at p (stationOf (h .0)) (h .1 .1))
+    some-void-of h = some-at (sidesOf p) (gridOf p) (lastPlace p) (h .0) (h .1 .0) (void-at p (gridOf p .place (h .0)) (h .1 .1))
 
     finite-all : allFinite p ≡ true → FiniteAll p
     finite-all e i c = finite-is p i ∙ each-finite p e i (pair-listed i .always c)
@@ -216,8 +216,8 @@ module _ (s b : List ℕ) where
     the-pairs =
         record {
           listed = pair-listed;
-          rising = rises (sidesOf p) (lastStation p);
-          neighbours = neighbours;
+          rising = rises (sidesOf p) (gridOf p) (lastPlace p);
+          neighbours = grid-rises (p .triangle) (p .revolutions) .next;
           bracket = bracket-of p;
           lowerEnd = lower-of p;
           halvings = halvings-of p;

@@ -3,7 +3,7 @@ use mathlib.Core.Path.{_≡_}
 use mathlib.Core.Bool.{Bool, true, false, cond, not, _&&_}
 use mathlib.Core.Logic.{_⊎_}
 use mathlib.Core.List.{List, _++_, map}
-use Prim.Native.Nat.{ℕ, _+_, _*_, _^_, _≤_, _<_}
+use Prim.Native.Nat.{ℕ, _+_, _-_, _*_, _^_, _≤_, _<_}
 use lib.IntN.{ℤ, pos, _+ℤ_}
 use lib.Ieee.{Float}
 use lib.ListN.{length, getD, take, drop}
@@ -16,7 +16,6 @@ use Rattle.entrance.specs.Judge.{Check, checks, longWay, problemOf}
 use Rattle.entrance.specs.Table.{appliesIn, conditionOf, First, Exactly}
 use Rattle.entrance.specs.declared.Problem.{Problem}
 use Rattle.flight_time.specs.declared.Place.the-variants.{Timed, Void}
-use Rattle.stations.specs.Stations.{stationOf}
 use Rattle.bisection.specs.Pairs.{bracketOf}
 use Rattle.sweep.specs.Crossings.{crossings}
 use Rattle.crossing_laws.specs.Brackets.{IsBracket}
@@ -26,7 +25,7 @@ use Rattle.velocity.specs.Chosen.{upperChosen, vectorFinite}
 use Rattle.solution.specs.declared.Outcome.{Outcome}
 use Rattle.solution.specs.declared.Outcome.the-variants.{Refused, Answered}
 use Rattle.entries.specs.Entries.{placeOf, velocitiesAt, endNumber, entryFor}
-use Rattle.solution.specs.Crossed.{sidesOf, lastStation}
+use Rattle.solution.specs.Crossed.{sidesOf, gridOf, lastPlace}
 use Rattle.solution.specs.Table.{lateChecks}
 use Rattle.solution.specs.Solve.{Solved, solveOf, longest, refusalFor, recordOf, Response, responseOf}
 
@@ -70,21 +69,21 @@ pub record InDomain (p : Problem) : Type 0 where
   pub wantedAbove : (0F ≺ p .wanted) ≡ true
   pub lambdaBelow : (magnitudeOf (p .triangle .lambda) ≺ 1F) ≡ true
 
--- what counts: a neighbouring pair of stations, i and i + 1, with both times known and just one of them below the wanted time
+-- what counts: a neighbouring pair of places of the grid, i and i + 1, with both times known and just one of them below the wanted time
 pub record Counts (p : Problem) (i : ℕ) : Type 0 where
-  pub within : i < lastStation p
+  pub within : i < lastPlace p
   pub lowerTime : Float
   pub upperTime : Float
-  pub lowerIs : placeOf p (stationOf i) ≡ Timed lowerTime
-  pub upperIs : placeOf p (stationOf (i + 1)) ≡ Timed upperTime
+  pub lowerIs : placeOf p (gridOf p .place i) ≡ Timed lowerTime
+  pub upperIs : placeOf p (gridOf p .place (i + 1)) ≡ Timed upperTime
   pub apart : (lowerTime ≺ p .wanted) ≡ not (upperTime ≺ p .wanted)
 
--- the pairs that count, each by the index of its lower station; the bracket and the entry of one; whether an entry's velocities are finite
+-- the pairs that count, each by the index of its lower place; the bracket and the entry of one; whether an entry's velocities are finite
 abbrev pub pairsOf : Problem → List ℕ
-pairsOf p = crossings (sidesOf p) (lastStation p)
+pairsOf p = crossings (sidesOf p) (gridOf p) (lastPlace p)
 
 abbrev pub bracketAt : Problem → ℕ → Bracket
-bracketAt p i = bracketOf (sidesOf p) i
+bracketAt p i = bracketOf (sidesOf p) (gridOf p) i
 
 abbrev pub entryAt : Problem → ℕ → Entry
 entryAt p i = entryFor p (bracketAt p i)
@@ -92,7 +91,7 @@ entryAt p i = entryFor p (bracketAt p i)
 abbrev pub entryFinite : Entry → Bool
 entryFinite e = vectorFinite (e .v1) && vectorFinite (e .v2)
 
--- every velocity of every such pair is finite, some is not; every station has a time, some has none; no pair counts
+-- every velocity of every such pair is finite, some is not; every place has a time, some has none; no pair counts
 abbrev pub FiniteAll : Problem → Type 0
 FiniteAll p = (i : ℕ) → Counts p i → entryFinite (entryAt p i) ≡ true
 
@@ -100,10 +99,10 @@ abbrev pub FiniteNot : Problem → Type 0
 FiniteNot p = (i : ℕ) × (Counts p i × (entryFinite (entryAt p i) ≡ false))
 
 abbrev pub TimedAll : Problem → Type 0
-TimedAll p = (i : ℕ) → i ≤ lastStation p → (t : Float) × (placeOf p (stationOf i) ≡ Timed t)
+TimedAll p = (i : ℕ) → i ≤ lastPlace p → (t : Float) × (placeOf p (gridOf p .place i) ≡ Timed t)
 
 abbrev pub VoidSome : Problem → Type 0
-VoidSome p = (i : ℕ) × ((i ≤ lastStation p) × (placeOf p (stationOf i) ≡ Void))
+VoidSome p = (i : ℕ) × ((i ≤ lastPlace p) × (placeOf p (gridOf p .place i) ≡ Void))
 
 abbrev pub NonePair : Problem → Type 0
 NonePair p = (i : ℕ) → Counts p i → ⊥
@@ -123,9 +122,9 @@ pub record Pairs (p : Problem) : Type 0 where
   -- the list has exactly the pairs that count, in rising x
   pub listed : (i : ℕ) → Exactly (Listed i (pairsOf p)) (Counts p i)
   pub rising : Rising (pairsOf p)
-  pub neighbours : (i : ℕ) → stationOf (i + 1) ≡ stationOf i +ℤ pos (2 ^ 20)
+  pub neighbours : (i : ℕ) → gridOf p .place (i + 1) ≡ gridOf p .place i +ℤ pos (2 ^ (20 - gridOf p .halvings i))
   -- a pair's bracket is the one that halving of the pair ends with, within the pair, its ends on opposite sides, one step wide or with a void middle
-  pub bracket : (i : ℕ) → Counts p i → IsBracket (sidesOf p) (stationOf i) (stationOf (i + 1)) (bracketAt p i)
+  pub bracket : (i : ℕ) → Counts p i → IsBracket (sidesOf p) (gridOf p .place i) (gridOf p .place (i + 1)) (gridOf p .halvings i) (bracketAt p i)
   pub lowerEnd : (i : ℕ) → entryAt p i .lower ≡ bracketAt p i .lower
   pub halvings : (i : ℕ) → entryAt p i .halvings ≡ bracketAt p i .halvings
   -- its entry's chosen end and velocities are those that 01 gives for that bracket
@@ -143,7 +142,7 @@ pub record Demand3 (s b : List ℕ) : Type 0 where
   -- accepted exactly when there are one to eight such pairs and every velocity is finite
   pub accepted : Exactly (HasAnswer s b) ((1 ≤ length (pairsOf (problemFrom s))) × (length (pairsOf (problemFrom s)) ≤ 8) × FiniteAll (problemFrom s))
   pub answer : (n : ℕ) → solveOf s b .outcome ≡ Answered n → Answer s b n
-  -- "no transfer" exactly when every station has a time and no such pair exists
+  -- "no transfer" exactly when every place of the grid has a time and no such pair exists
   pub eleven : Exactly (solveOf s b .outcome ≡ Refused 11) (TimedAll (problemFrom s) × NonePair (problemFrom s))
   -- any other refusal is 12, 13 or 14, each exactly when 01's table says
   pub twelve : Exactly (solveOf s b .outcome ≡ Refused 12) (VoidSome (problemFrom s) × NonePair (problemFrom s))

@@ -16,7 +16,7 @@ use Rattle.sweep.specs.declared.Walk.{Walk}
 use Rattle.sweep.specs.declared.Walk.the-variants.{AllTimed, SomeVoid, NinthFound}
 use Rattle.crossing_laws.proofs.Theorems.{counted, length-is, all-listed}
 use Rattle.entries.specs.Entries.{entryFor, finiteFor, every}
-use Rattle.solution.specs.Crossed.{sidesOf, lastStation, bracketsOf, entriesOf}
+use Rattle.solution.specs.Crossed.{sidesOf, gridOf, lastPlace, bracketsOf, entriesOf}
 use Rattle.solution.specs.Table.{crossingCount, anyVoid, allFinite, lateChecks}
 use Rattle.solution.specs.Internals.{velocityNumber, lateNumber}
 use Rattle.solution.specs.Solve.{Solved, refused, answered, settledOf}
@@ -36,20 +36,20 @@ by-walk false false false count e = rw e
 module _ (p : Problem) where
   -- what the sweep of a problem says, and how its brackets fared
   abbrev pub found : Crossings
-  found = sweepOf (sidesOf p) (lastStation p)
+  found = sweepOf (sidesOf p) (gridOf p) (lastPlace p)
 
   abbrev pub finiteFound : Bool
   finiteFound = every (finiteFor p) (take (found .count) (found .list))
 
   pub most-eight : found .count ≤ 8
-  most-eight = omega (arith, counted (sidesOf p) (lastStation p))
+  most-eight = omega (arith, counted (sidesOf p) (gridOf p) (lastPlace p))
 
   all-there : crossingCount p ≤ 8 → take (found .count) (found .list) ≡ bracketsOf p
   unfolding bracketsOf
-  all-there h = all-listed (sidesOf p) (lastStation p) h
+  all-there h = all-listed (sidesOf p) (gridOf p) (lastPlace p) h
 
   few-count : crossingCount p ≤ 8 → found .count ≡ crossingCount p
-  few-count h = omega (arith, counted (sidesOf p) (lastStation p), h)
+  few-count h = omega (arith, counted (sidesOf p) (gridOf p) (lastPlace p), h)
 
   by-ninth : (ninth : Bool) → ltb 8 (crossingCount p) ≡ ninth → lateNumber (walkOf ninth (anyVoid p)) (found .count) finiteFound ≡ rows (eqb (crossingCount p) 0) (anyVoid p) ninth (allFinite p)
   by-ninth true e = rw (ne-eqb (crossingCount p) 0 (λ z. omega (arith, z, ltb-true 8 (crossingCount p) e)))
@@ -63,7 +63,7 @@ module _ (p : Problem) where
 
   walk-is : found .walk ≡ walkOf (ltb 8 (crossingCount p)) (anyVoid p)
   unfolding sweepOf reported
-  walk-is = ap (λ (n : ℕ). walkOf (ltb 8 n) (anyVoid p)) (length-is (sidesOf p) (lastStation p))
+  walk-is = ap (λ (n : ℕ). walkOf (ltb 8 n) (anyVoid p)) (length-is (sidesOf p) (gridOf p) (lastPlace p))
 
   pub number-is : lateNumber (found .walk) (found .count) finiteFound ≡ firstOf (lateChecks p)
   number-is =
@@ -88,7 +88,7 @@ module _ (p : Problem) where
 
   pub count-is : crossingCount p ≤ 8 → found .count ≡ length (entriesOf p)
   unfolding entriesOf bracketsOf
-  count-is h = few-count h ∙ sym (length-map (bracketsOf p) (entryFor p) ∙ length-is (sidesOf p) (lastStation p))
+  count-is h = few-count h ∙ sym (length-map (bracketsOf p) (entryFor p) ∙ length-is (sidesOf p) (gridOf p) (lastPlace p))
 
   -- ---- what comes of it
 

@@ -5,7 +5,9 @@ use lib.IntN.{ℤ}
 use Rattle.records.specs.declared.Entry.{Entry}
 use Rattle.entrance.specs.declared.Problem.{Problem}
 use Rattle.stations.specs.Sides.{sideAt}
+use Rattle.stations.specs.Grid.{Grid}
 use Rattle.stations.specs.Stations.{lastOf}
+use Rattle.stations.specs.SearchGrid.{gridFor, lastFor}
 use Rattle.sweep.specs.Crossings.{brackets}
 use Rattle.bisection.specs.declared.Bracket.{Bracket}
 use Rattle.stations.specs.declared.side.Side.{Side}
@@ -15,12 +17,19 @@ use Rattle.entries.specs.Entries.{entryFor}
 unfoldable pub sidesOf : Problem → ℤ → Side
 sidesOf p = sideAt (p .triangle) (p .revolutions) (p .wanted)
 
--- the index of the last station, and the brackets of all crossings in rising x
+-- the index of the last station
 abbrev pub lastStation : Problem → ℕ
 lastStation p = lastOf (p .revolutions)
 
+-- the places that are looked at and the index of the last one, and the brackets of all crossings in rising x
+abbrev pub gridOf : Problem → Grid
+gridOf p = gridFor (p .triangle) (p .revolutions)
+
+abbrev pub lastPlace : Problem → ℕ
+lastPlace p = lastFor (p .triangle) (p .revolutions)
+
 unfoldable pub bracketsOf : Problem → List Bracket
-bracketsOf p = brackets (sidesOf p) (lastStation p)
+bracketsOf p = brackets (sidesOf p) (gridOf p) (lastPlace p)
 
 -- the entries of all crossings in rising x
 unfoldable pub entriesOf : Problem → List Entry

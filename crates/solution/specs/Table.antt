@@ -8,14 +8,14 @@ use Rattle.entrance.specs.Judge.{Check, check}
 use Rattle.entrance.specs.declared.Problem.{Problem}
 use Rattle.sweep.specs.Crossings.{crossings, someVoid}
 use Rattle.entries.specs.Entries.{finiteFor, every}
-use Rattle.solution.specs.Crossed.{sidesOf, lastStation, bracketsOf}
+use Rattle.solution.specs.Crossed.{sidesOf, gridOf, lastPlace, bracketsOf}
 
--- how many crossings there are, whether some station is void, and whether all velocities at the chosen ends are finite
+-- how many crossings there are, whether some place is void, and whether all velocities at the chosen ends are finite
 abbrev pub crossingCount : Problem → ℕ
-crossingCount p = length (crossings (sidesOf p) (lastStation p))
+crossingCount p = length (crossings (sidesOf p) (gridOf p) (lastPlace p))
 
 abbrev pub anyVoid : Problem → Bool
-anyVoid p = someVoid (sidesOf p) (lastStation p)
+anyVoid p = someVoid (sidesOf p) (gridOf p) (lastPlace p)
 
 abbrev pub allFinite : Problem → Bool
 allFinite p = every (finiteFor p) (bracketsOf p)

@@ -1,2 +1,4 @@
+pub mod Grid
+pub mod SearchGrid
 pub mod Sides
 pub mod Stations

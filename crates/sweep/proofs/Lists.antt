@@ -12,6 +12,7 @@ use lib.Seq.{take-all, take-at, set-append-seam, append-snoc}
 use lib.IntN.{ℤ}
 use Rattle.bisection.specs.declared.Bracket.{Bracket}
 use Rattle.stations.specs.declared.side.Side.{Side}
+use Rattle.stations.specs.Grid.{Grid}
 use Rattle.bisection.specs.Pairs.{crosses, bracketOf}
 use Rattle.sweep.specs.Crossings.{upTo, keep, some, crossings, someVoid, brackets, blank, eight, walkOf, reported, sweepOf}
 
@@ -77,40 +78,40 @@ a-ninth bs rest b u void h =
     let m : (reported (bs ++ (b ∷ rest)) void) .count ≡ 8 = omega arith in
     rw (take-at bs (b ∷ rest) 8 h, m, lt-ltb 8 (length (bs ++ (b ∷ rest))) n)
 
--- ---- stations
+-- ---- places of any grid
 
-module _ (σ : ℤ → Side) where
-  pub brackets-next : (i : ℕ) → brackets σ (i + 1) ≡ brackets σ i ++ cond (crosses σ i) (bracketOf σ i ∷ []) []
+module _ (σ : ℤ → Side) (g : Grid) where
+  pub brackets-next : (i : ℕ) → brackets σ g (i + 1) ≡ brackets σ g i ++ cond (crosses σ g i) (bracketOf σ g i ∷ []) []
   unfolding brackets crossings
   brackets-next i =
-      ap (map (bracketOf σ)) (keep-next (crosses σ) i)
-      ∙ map-append (bracketOf σ) (crossings σ i) (cond (crosses σ i) (i ∷ []) [])
-      ∙ ap (λ bs. brackets σ i ++ bs) (map-cond (bracketOf σ) (crosses σ i) i)
+      ap (map (bracketOf σ g)) (keep-next (crosses σ g) i)
+      ∙ map-append (bracketOf σ g) (crossings σ g i) (cond (crosses σ g i) (i ∷ []) [])
+      ∙ ap (λ bs. brackets σ g i ++ bs) (map-cond (bracketOf σ g) (crosses σ g i) i)
 
   -- the brackets found so far are the first of all
-  later : (i k : ℕ) → (rest : List Bracket) × (brackets σ (i + k) ≡ brackets σ i ++ rest)
+  later : (i k : ℕ) → (rest : List Bracket) × (brackets σ g (i + k) ≡ brackets σ g i ++ rest)
   later i zero = ([], rw (add-zero, append-nil))
   later i (suc k) =
       let r = later i k in
-      let more = cond (crosses σ (i + k)) (bracketOf σ (i + k) ∷ []) [] in (
+      let more = cond (crosses σ g (i + k)) (bracketOf σ g (i + k) ∷ []) [] in (
         r .0 ++ more,
-        ap (brackets σ) (sym (add-assoc i k 1 ∙ ap (λ (j : ℕ). i + j) (add-one k)))
+        ap (brackets σ g) (sym (add-assoc i k 1 ∙ ap (λ (j : ℕ). i + j) (add-one k)))
             ∙ brackets-next (i + k)
-            ∙ rw (r .1) (append-assoc (brackets σ i) (r .0) more),
+            ∙ rw (r .1) (append-assoc (brackets σ g i) (r .0) more),
       )
 
   -- the walk passed every station
-  pub all-passed : (last : ℕ) → length (brackets σ last) ≤ 8 → record { list = eight (brackets σ last); count = length (brackets σ last); walk = walkOf false (someVoid σ last) } ≡ sweepOf σ last
+  pub all-passed : (last : ℕ) → length (brackets σ g last) ≤ 8 → record { list = eight (brackets σ g last); count = length (brackets σ g last); walk = walkOf false (someVoid σ g last) } ≡ sweepOf σ g last
   unfolding sweepOf
-  all-passed last h = no-ninth (brackets σ last) (someVoid σ last) h
+  all-passed last h = no-ninth (brackets σ g last) (someVoid σ g last) h
 
   -- it was left at the pair i, the ninth that crosses
-  pub left-at : (i last : ℕ) (u : Bool) → i < last → length (brackets σ i) ≡ 8 → crosses σ i ≡ true → record { list = eight (brackets σ i); count = 8; walk = walkOf true u } ≡ sweepOf σ last
+  pub left-at : (i last : ℕ) (u : Bool) → i < last → length (brackets σ g i) ≡ 8 → crosses σ g i ≡ true → record { list = eight (brackets σ g i); count = 8; walk = walkOf true u } ≡ sweepOf σ g last
   unfolding sweepOf
   left-at i last u h e y =
       let j : last ≡ i + 1 + (last - (i + 1)) = omega arith in
       let r = later (i + 1) (last - (i + 1)) in
-      let first : brackets σ (i + 1) ≡ brackets σ i ++ (bracketOf σ i ∷ []) = rw (brackets-next i, y) in
-      a-ninth (brackets σ i) (r .0) (bracketOf σ i) u (someVoid σ last) e
-      ∙ ap (λ bs. reported bs (someVoid σ last))
-      (sym (ap (brackets σ) j ∙ r .1 ∙ ap (λ bs. bs ++ r .0) first ∙ append-snoc (brackets σ i) (bracketOf σ i) (r .0)))
+      let first : brackets σ g (i + 1) ≡ brackets σ g i ++ (bracketOf σ g i ∷ []) = rw (brackets-next i, y) in
+      a-ninth (brackets σ g i) (r .0) (bracketOf σ g i) u (someVoid σ g last) e
+      ∙ ap (λ bs. reported bs (someVoid σ g last))
+      (sym (ap (brackets σ g) j ∙ r .1 ∙ ap (λ bs. bs ++ r .0) first ∙ append-snoc (brackets σ g i) (bracketOf σ g i) (r .0)))

@@ -11,7 +11,7 @@ use Rattle.sweep.specs.declared.Crossings.{Crossings}
 use Rattle.sweep.specs.declared.Walk.{Walk}
 use Rattle.sweep.specs.declared.Walk.the-variants.{AllTimed, SomeVoid, NinthFound}
 use Rattle.stations.specs.Sides.{isUnknown}
-use Rattle.stations.specs.Stations.{stationOf}
+use Rattle.stations.specs.Grid.{Grid}
 use Rattle.bisection.specs.Pairs.{crosses, bracketOf}
 
 -- 0, 1, .., n - 1
@@ -29,16 +29,16 @@ unfoldable pub some : (ℕ → Bool) → List ℕ → Bool
 some p [] = false
 some p (x ∷ xs) = p x || some p xs
 
--- the crossings up to the station `last`, each by the index of its lower station, in rising order
-unfoldable pub crossings : (ℤ → Side) → ℕ → List ℕ
-crossings σ last = keep (crosses σ) (upTo last)
+-- the crossings of a grid up to its place `last`, each by the index of its lower place, in rising order
+unfoldable pub crossings : (ℤ → Side) → Grid → ℕ → List ℕ
+crossings σ g last = keep (crosses σ g) (upTo last)
 
--- whether some station is void; the first and the last are asked too
-unfoldable pub someVoid : (ℤ → Side) → ℕ → Bool
-someVoid σ last = some (λ i. isUnknown (σ (stationOf i))) (upTo (last + 1))
+-- whether some place is void; the first and the last are asked too
+unfoldable pub someVoid : (ℤ → Side) → Grid → ℕ → Bool
+someVoid σ g last = some (λ i. isUnknown (σ (g .place i))) (upTo (last + 1))
 
-unfoldable pub brackets : (ℤ → Side) → ℕ → List Bracket
-brackets σ last = map (bracketOf σ) (crossings σ last)
+unfoldable pub brackets : (ℤ → Side) → Grid → ℕ → List Bracket
+brackets σ g last = map (bracketOf σ g) (crossings σ g last)
 
 -- a place that is not used
 abbrev pub blank : Bracket
@@ -48,11 +48,11 @@ blank = record { lower = pos 0; upper = pos 0; halvings = 0 }
 abbrev pub eight : List Bracket → List Bracket
 eight bs = bs ++ replicate (8 - length bs) blank
 
--- what is said of the stations: that there is a ninth crossing, and then nothing of their times; or whether some is void
+-- what is said of the places: that there is a ninth crossing, and then nothing of their times; or whether some is void
 abbrev pub walkOf : Bool → Bool → Walk
 walkOf ninth void = cond ninth NinthFound (cond void SomeVoid AllTimed)
 
--- what is reported of all brackets and of whether some station is void: the first eight brackets beside their count, and what is said of the stations
+-- what is reported of all brackets and of whether some place is void: the first eight brackets beside their count, and what is said of the places
 unfoldable pub reported : List Bracket → Bool → Crossings
 reported bs void =
     record {
@@ -61,6 +61,6 @@ reported bs void =
       walk = walkOf (ltb 8 (length bs)) void;
     }
 
--- all that a sweep says of the stations up to `last`
-unfoldable pub sweepOf : (ℤ → Side) → ℕ → Crossings
-sweepOf σ last = reported (brackets σ last) (someVoid σ last)
+-- all that a sweep says of the places of a grid up to `last`
+unfoldable pub sweepOf : (ℤ → Side) → Grid → ℕ → Crossings
+sweepOf σ g last = reported (brackets σ g last) (someVoid σ g last)

@@ -3,7 +3,7 @@
 // down to a bracket.
 ghost use mathlib.Core.Path.{_≡_};
 ghost use Rattle.stations.specs.Sides.{sideAt};
-ghost use Rattle.stations.specs.Stations.{lastOf};
+ghost use Rattle.stations.specs.SearchGrid.{gridFor, lastFor};
 ghost use Rattle.sweep.specs.Crossings.{walkOf, sweepOf};
 pub use bisection::Bracket;
 use bisection::bracket_of;
@@ -32,7 +32,7 @@ pub struct Crossings {
 
 // The crossings of the wanted time T* with m whole revolutions.
 pub fn find_crossings(triangle: Triangle, m: u16, wanted: f64) -> Crossings
-    ensures { λ r. ⌜ r ≡ sweepOf (sideAt triangle m wanted) (lastOf m) ⌝ }
+    ensures { λ r. ⌜ r ≡ sweepOf (sideAt triangle m wanted) (gridFor triangle m) (lastFor triangle m) ⌝ }
 {
     let last = last_station(m);
     let blank = Bracket {

@@ -2,7 +2,7 @@
 use Prim.Native.Nat.{ℕ, _+_}
 use Rattle.float64.specs.Notation.{bits}
 use Rattle.stations.specs.Sides.{sideAt}
-use Rattle.stations.specs.Stations.{lastOf}
+use Rattle.stations.specs.SearchGrid.{gridFor, lastFor}
 use Rattle.sweep.specs.Crossings.{sweepOf}
 use Rattle.sweep.specs.declared.Crossings.{Crossings}
 use Rattle.sweep.specs.declared.Walk.{Walk}
@@ -19,4 +19,4 @@ unfoldable pub foundNumber : Crossings → ℕ
 foundNumber found = walkNumber (found .walk) + found .count
 
 unfoldable pub sweepNumberOf : ℕ → ℕ → ℕ → ℕ
-sweepNumberOf b m w = foundNumber (sweepOf (sideAt (withLambda b) m (bits w)) (lastOf m))
+sweepNumberOf b m w = foundNumber (sweepOf (sideAt (withLambda b) m (bits w)) (gridFor (withLambda b) m) (lastFor (withLambda b) m))

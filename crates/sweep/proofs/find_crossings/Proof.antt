@@ -5,7 +5,9 @@ use Prim.Native.Nat.{_+_, _-_, _≤_}
 use native.Mathlib.Omega.{arith}
 use borrow.Author.Tests.{le-leb, lt-leb}
 use lib.Arith.{lt-of-le-ne}
+use Rattle.stations.specs.Grid.{stations}
 use Rattle.stations.specs.Sides.{sideAt}
+use Rattle.stations.specs.SearchGrid.{gridFor, lastFor}
 use Rattle.stations.proofs.Places.{last-most}
 use Rattle.sweep.proofs.Turns.{Passed, starts, done, pair, too-many, passed, listed}
 use Rattle.sweep.proofs.find_crossings.Statement.{statement}
@@ -13,7 +15,7 @@ use Rattle.sweep.proofs.find_crossings.Tie as tie
 
 abbrev Inv-stations : tie.InvT-stations
 Inv-stations triangle m wanted last list₀ count₀ void₀ low₀ i₀ list count void low i =
-    Passed (sideAt triangle m wanted) last list count void low i
+    Passed (sideAt triangle m wanted) stations last list count void low i
 
 abbrev μ-stations : tie.MeasureT-stations
 μ-stations triangle m wanted last list₀ count₀ void₀ low₀ i₀ list count void low i = last + 1 - i
@@ -22,7 +24,7 @@ last-station-requires : tie.Need-last-station-requires Inv-stations μ-stations
 last-station-requires c κs = tt
 
 stations-holds : tie.Need-stations-holds Inv-stations μ-stations
-stations-holds c = starts _ _
+stations-holds c = starts _ _ _
 
 -- in a turn i is at most the last station, and so small
 small : (c : tie.In-stations Inv-stations μ-stations) → c .before .stations .i ≤ 20479
@@ -75,6 +77,7 @@ walk-of-requires : tie.Need-walk-of-requires Inv-stations μ-stations
 walk-of-requires c κs = tt
 
 returns : tie.Need-returns Inv-stations μ-stations
+unfolding gridFor lastFor
 returns c =
     let k = c .before .before in
     rw (c .walk-of .ensures, ← k .before .last-station .ensures)

@@ -6,7 +6,8 @@ use borrow.Author.Needs.{needs}
 use lib.IntN.{ℤ}
 use Rattle.float64.specs.Notation.{bits}
 use Rattle.stations.specs.Sides.{sideAt}
-use Rattle.stations.specs.Stations.{lastOf}
+use Rattle.stations.specs.Grid.{Grid}
+use Rattle.stations.specs.SearchGrid.{gridFor, lastFor}
 use Rattle.sweep.specs.Crossings.{reported, sweepOf}
 use Rattle.sweep.specs.declared.Crossings.{Crossings}
 use Rattle.stations.specs.declared.side.Side.{Side}
@@ -17,9 +18,9 @@ use Rattle.time_bits.specs.SweepNumber.{walkNumber, foundNumber, sweepNu
 use Rattle.time_bits.proofs.lambert_sweep_number.Statement.{statement}
 use Rattle.time_bits.proofs.lambert_sweep_number.Tie as tie
 
-count-small : (σ : ℤ → Side) (last : ℕ) → sweepOf σ last .count ≤ 8
+count-small : (σ : ℤ → Side) (g : Grid) (last : ℕ) → sweepOf σ g last .count ≤ 8
 unfolding sweepOf reported
-count-small σ last = omega arith
+count-small σ g last = omega arith
 
 walk-small : (w : Walk) → walkNumber w ≤ 32
 walk-small AllTimed = omega arith
@@ -30,7 +31,7 @@ walk-small NinthFound = omega arith
 found-is :
     (c : tie.After-find-crossings) →
     let a = c .before .before .before .args in
-    c .find-crossings .result ≡ sweepOf (sideAt (withLambda (a .b)) (a .m) (bits (a .w))) (lastOf (a .m))
+    c .find-crossings .result ≡ sweepOf (sideAt (withLambda (a .b)) (a .m) (bits (a .w))) (gridFor (withLambda (a .b)) (a .m)) (lastFor (withLambda (a .b)) (a .m))
 found-is c = simp (c .before .before .with-lambda .ensures, c .before .from-bits .ensures) at (c .find-crossings .ensures)
 
 with-lambda-requires : tie.Need-with-lambda-requires
@@ -49,7 +50,7 @@ add-result : tie.Need-add-result
 add-result c =
     let found = c .before .find-crossings .result in
     let walk : c .walk-number .result ≤ 32 = subst (λ (n : ℕ). n ≤ 32) (sym (c .walk-number .ensures)) (walk-small (found .walk)) in
-    let count : found .count ≤ 8 = subst (λ (r : Crossings). r .count ≤ 8) (sym (found-is (c .before))) (count-small _ _) in
+    let count : found .count ≤ 8 = subst (λ (r : Crossings). r .count ≤ 8) (sym (found-is (c .before))) (count-small _ _ _) in
     omega arith
 
 returns : tie.Need-returns
