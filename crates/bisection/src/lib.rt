@@ -8,7 +8,7 @@ ghost use Rattle.bisection.specs.Halving.{bisectOf};
 ghost use Rattle.bisection.specs.Interval.{Interval};
 ghost use Rattle.bisection.specs.Pairs.{bracketOf};
 use flight_time::Place;
-use geometry::Triangle;
+use stations::Search;
 use stations::Side;
 use stations::are_opposite;
 use stations::is_unknown;
@@ -24,19 +24,19 @@ pub struct Bracket {
 
 // The bracket of the stations i and i + 1: where the halving of this pair stops. Its ends are on
 // opposite sides if the pair's are.
-pub fn bracket_of(triangle: Triangle, m: u16, wanted: f64, i: u16) -> Bracket
-    ensures { λ r. ⌜ r ≡ bracketOf (sideAt triangle m wanted) stations i ⌝ }
+pub fn bracket_of(search: Search, i: u16) -> Bracket
+    ensures { λ r. ⌜ r ≡ bracketOf (sideAt search) stations i ⌝ }
 {
     let a = station(i);
-    let low = side_at(triangle, m, wanted, a);
-    bisect(triangle, m, wanted, low, a, a + Place::STATION_SPACING, 0)
+    let low = side_at(search, a);
+    bisect(search, low, a, a + Place::STATION_SPACING, 0)
 }
 
 // Halves the interval from a to b, whose lower end is on the side `low`, after h halvings. In an
 // interval wider than 1 the middle is neither end.
-fn bisect(triangle: Triangle, m: u16, wanted: f64, low: Side, a: i64, b: i64, h: u32) -> Bracket
-    requires { ⌜ Interval (sideAt triangle m wanted) low a b h ⌝ }
-    ensures { λ r. ⌜ r ≡ bisectOf (sideAt triangle m wanted) (20 - h) h a b ⌝ }
+fn bisect(search: Search, low: Side, a: i64, b: i64, h: u32) -> Bracket
+    requires { ⌜ Interval (sideAt search) low a b h ⌝ }
+    ensures { λ r. ⌜ r ≡ bisectOf (sideAt search) (20 - h) h a b ⌝ }
 {
     let here = Bracket {
         lower: a,
@@ -47,13 +47,13 @@ fn bisect(triangle: Triangle, m: u16, wanted: f64, low: Side, a: i64, b: i64, h:
         return here;
     }
     let middle = (a + b) / 2;
-    let side = side_at(triangle, m, wanted, middle);
+    let side = side_at(search, middle);
     if is_unknown(side) {
         return here; // A void middle isn't counted.
     }
     if are_opposite(low, side) {
-        bisect(triangle, m, wanted, low, a, middle, h + 1)
+        bisect(search, low, a, middle, h + 1)
     } else {
-        bisect(triangle, m, wanted, side, middle, b, h + 1)
+        bisect(search, side, middle, b, h + 1)
     }
 }

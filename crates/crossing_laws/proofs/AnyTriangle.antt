@@ -1,5 +1,5 @@
--- What the sweep says of triangles, revolutions and wanted times that no question leads to; and that a side is known only where there is a finite time.
-use mathlib.Core.Path.{_≡_, refl}
+-- What the sweep says of searches that no question leads to, whatever the grid; and that a side is known only where there is a finite time.
+use mathlib.Core.Path.{_≡_, refl, subst}
 use mathlib.Core.Bool.{Bool, true, false, not, _||_}
 use mathlib.Core.Logic.{_⊎_, ⊎-elim}
 use Prim.Native.Nat.{ℕ, _+_, _≤_, _<_}
@@ -10,12 +10,12 @@ use lib.Ieee.{Float, nan, inf, fin, lt}
 use lib.ListN.{length}
 use Rattle.float64.specs.Notation.{_≺_, 1F}
 use Rattle.float64.specs.Value.{magnitudeOf, finiteOf}
-use Rattle.geometry.specs.declared.Triangle.{Triangle}
 use Rattle.flight_time.specs.Steps.{outsideRange, mostRevolutions}
 use Rattle.flight_time.specs.Time.{timeOf}
 use Rattle.flight_time.specs.declared.Place.{Place}
 use Rattle.flight_time.specs.declared.Place.the-variants.{Timed, Void}
 use Rattle.crossing_laws.proofs.FiniteTimes.{timed-finite}
+use Rattle.stations.specs.declared.search.Search.{Search}
 use Rattle.stations.specs.declared.side.Side.{Side}
 use Rattle.stations.specs.declared.side.Side.the-variants.{Below, Unknown}
 use Rattle.sweep.specs.declared.Walk.the-variants.{SomeVoid}
@@ -28,18 +28,23 @@ use Rattle.crossing_laws.proofs.Corners.{none-below, below-exactly}
 
 -- ---- a known side has a finite time behind it
 
-timed-by : (t : Triangle) (m : ℕ) (w : Float) (k : ℤ) (p : Place) → timeOf t k m ≡ p → isUnknown (sideOf p w) ≡ false → (time : Float) × ((timeOf t k m ≡ Timed time) × (finiteOf time ≡ true))
-unfolding sideOf
-timed-by t m w k (Timed time) e h = (time, (e, timed-finite t k m time e))
-timed-by t m w k Void e h = clash refl h
+-- the place k has a time, and it is finite
+abbrev pub FiniteAt : Search → ℤ → Type 0
+FiniteAt s k = (time : Float) × ((timeOf (s .triangle) k (s .revolutions) ≡ Timed time) × (finiteOf time ≡ true))
 
-pub known-finite : (t : Triangle) (m : ℕ) (w : Float) (k : ℤ) → isUnknown (sideAt t m w k) ≡ false → (time : Float) × ((timeOf t k m ≡ Timed time) × (finiteOf time ≡ true))
+finite-by : (s : Search) (k : ℤ) (p : Place) → timeOf (s .triangle) k (s .revolutions) ≡ p → isUnknown (sideOf p (s .wanted)) ≡ false → FiniteAt s k
+unfolding sideOf
+finite-by s k (Timed time) e h = (time, (e, timed-finite (s .triangle) k (s .revolutions) time e))
+finite-by s k Void e h = clash refl h
+
+pub known-finite : (s : Search) (k : ℤ) → isUnknown (sideAt s k) ≡ false → FiniteAt s k
 unfolding sideAt
-known-finite t m w k h = timed-by t m w k (timeOf t k m) refl h
+known-finite s k h = finite-by s k (timeOf (s .triangle) k (s .revolutions)) refl h
 
 -- ---- where no place has a time, nothing is found, and void stations are the reason
 
-all-unknown : (σ : ℤ → Side) (g : Grid) (last : ℕ) → ((k : ℤ) → σ k ≡ Unknown) → (sweepOf σ g last .count ≡ 0) × (sweepOf σ g last .walk ≡ SomeVoid)
+all-unknown : (σ : ℤ → Side) (g : Grid) (last : ℕ) → ((k : ℤ) → σ k ≡ Unknown) →
+    (sweepOf σ g last .count ≡ 0) × (sweepOf σ g last .walk ≡ SomeVoid)
 unfolding crosses
 all-unknown σ g last u =
     let none : sweepOf σ g last .count ≡ 0 = none-exactly σ g last .1 (λ i h. rw (u (g .place i))) in
@@ -50,17 +55,21 @@ or-true : (a b : Bool) → b ≡ true → a || b ≡ true
 or-true true b e = refl
 or-true false b e = e
 
-outside-by : (t : Triangle) (m : ℕ) (w : Float) (k : ℤ) → outsideRange (t .lambda) k m ≡ true → sideAt t m w k ≡ Unknown
+outside-by : (s : Search) (k : ℤ) → outsideRange (s .triangle .lambda) k (s .revolutions) ≡ true → sideAt s k ≡ Unknown
 unfolding sideAt sideOf timeOf
-outside-by t m w k e = rw e
+outside-by s k e = rw e
 
--- |L| not below 1, or more than 16 revolutions
-pub nothing-outside : (t : Triangle) (m : ℕ) (w : Float) (g : Grid) (last : ℕ) → ((magnitudeOf (t .lambda) ≺ 1F) ≡ false) ⊎ (mostRevolutions < m) →
-    (sweepOf (sideAt t m w) g last .count ≡ 0) × (sweepOf (sideAt t m w) g last .walk ≡ SomeVoid)
+-- |L| is not below 1, or there are more than 16 revolutions
+abbrev pub OutsideRange : Search → Type 0
+OutsideRange s = ((magnitudeOf (s .triangle .lambda) ≺ 1F) ≡ false) ⊎ (mostRevolutions < s .revolutions)
+
+pub nothing-outside : (s : Search) (g : Grid) (last : ℕ) → OutsideRange s →
+    (sweepOf (sideAt s) g last .count ≡ 0) × (sweepOf (sideAt s) g last .walk ≡ SomeVoid)
 unfolding outsideRange
-nothing-outside t m w g last h =
-    all-unknown (sideAt t m w) g last (λ k. outside-by t m w k
-    (⊎-elim (λ e. rw e) (λ l. or-true (not (magnitudeOf (t .lambda) ≺ 1F)) _ (rw (lt-ltb mostRevolutions m l))) h))
+nothing-outside s g last h =
+    let near : Bool = magnitudeOf (s .triangle .lambda) ≺ 1F in
+    all-unknown (sideAt s) g last (λ k. outside-by s k
+    (⊎-elim (λ e. rw e) (λ l. or-true (not near) _ (rw (lt-ltb mostRevolutions (s .revolutions) l))) h))
 
 -- ---- a wanted time that is no number is crossed nowhere
 
@@ -70,13 +79,16 @@ none-below-nan nan = refl
 none-below-nan (inf s) = refl
 none-below-nan (fin s m e) = refl
 
-pub nothing-at-nan : (t : Triangle) (m : ℕ) (g : Grid) (last : ℕ) → sweepOf (sideAt t m nan) g last .count ≡ 0
+pub nothing-at-nan : (s : Search) (g : Grid) (last : ℕ) → s .wanted ≡ nan → sweepOf (sideAt s) g last .count ≡ 0
 unfolding crosses sideAt
-nothing-at-nan t m g last =
-    none-exactly (sideAt t m nan) g last .1 (λ i h.
-    none-below (sideOf (timeOf t (g .place i) m) nan) (sideOf (timeOf t (g .place (i + 1)) m) nan)
-    (not-below (timeOf t (g .place i) m))
-    (not-below (timeOf t (g .place (i + 1)) m)))
+nothing-at-nan s g last e =
+    none-exactly (sideAt s) g last .1 (λ i h.
+    none-below (sideAt s (g .place i)) (sideAt s (g .place (i + 1))) (not-below (at i)) (not-below (at (i + 1))))
   where
-    not-below : (p : Place) → sideOf p nan ≡ Below → ⊥
-    not-below p e = let b = below-exactly p nan .0 e in clash (b .1 .1) (none-below-nan (b .0))
+    at : ℕ → Place
+    at i = timeOf (s .triangle) (g .place i) (s .revolutions)
+
+    not-below : (p : Place) → sideOf p (s .wanted) ≡ Below → ⊥
+    not-below p h =
+        let b = below-exactly p nan .0 (subst (λ (w : Float). sideOf p w ≡ Below) e h) in
+        clash (b .1 .1) (none-below-nan (b .0))

@@ -44,12 +44,12 @@ by-halved : (h : HalfAngles) (next : Angles → Place) → ((v : Angles) → Fin
 by-halved (Known v) next f = f v
 by-halved Void next f = no-time
 
-pub timed-finite : (t : Triangle) (k : ℤ) (m : ℕ) (time : Float) → timeOf t k m ≡ Timed time → finiteOf time ≡ true
+pub timed-finite : (t : Triangle) (k : ℤ) (revolutions : ℕ) (time : Float) → timeOf t k revolutions ≡ Timed time → finiteOf time ≡ true
 unfolding timeOf
-timed-finite t k m =
+timed-finite t k revolutions =
     let u = uOf (xOf k) in
-    if-not (outsideRange (t .lambda) k m) _
+    if-not (outsideRange (t .lambda) k revolutions) _
     (by-halved (halfAnglesOf (t .lambda) (xOf k) u) _ (λ v.
     by-stage (gOf v) _ (λ g.
-    by-stage (withRevolutions (directOf (t .lambda) (v .eta) g) u m) _ (λ x.
+    by-stage (withRevolutions (directOf (t .lambda) (v .eta) g) u revolutions) _ (λ x.
     last-test x (finiteOf x) refl))))

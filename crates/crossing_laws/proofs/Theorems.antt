@@ -43,13 +43,13 @@ pub last-station : stationOf (lastOf 0) ≡ pos (16384 * 2 ^ 20)
 unfolding stationOf lastOf
 last-station = refl
 
-revolving : (m : ℕ) → 1 ≤ m → lastOf m ≡ 8190
+revolving : (revolutions : ℕ) → 1 ≤ revolutions → lastOf revolutions ≡ 8190
 unfolding lastOf
-revolving m h = rw (ne-eqb m 0 (λ e. omega (arith, e)))
+revolving revolutions h = rw (ne-eqb revolutions 0 (λ e. omega (arith, e)))
 
-pub last-revolving : (m : ℕ) → 1 ≤ m → stationOf (lastOf m) ≡ pos (4095 * 2 ^ 20)
+pub last-revolving : (revolutions : ℕ) → 1 ≤ revolutions → stationOf (lastOf revolutions) ≡ pos (4095 * 2 ^ 20)
 unfolding stationOf
-last-revolving m h = ap stationOf (revolving m h)
+last-revolving revolutions h = ap stationOf (revolving revolutions h)
 
 pub neighbours : (i : ℕ) → stationOf (i + 1) ≡ stationOf i +ℤ pos (2 ^ 20)
 neighbours i = next-station i
@@ -63,16 +63,16 @@ pub to-highest : stationOf (lastOf 0) ≡ highest
 unfolding stationOf lastOf
 to-highest = refl
 
-pub to-highest-revolving : (m : ℕ) → 1 ≤ m → stationOf (lastOf m) ≡ highestRevolving
-to-highest-revolving m h = last-revolving m h
+pub to-highest-revolving : (revolutions : ℕ) → 1 ≤ revolutions → stationOf (lastOf revolutions) ≡ highestRevolving
+to-highest-revolving revolutions h = last-revolving revolutions h
 
 -- 20,480 stations for M = 0, and 8,191 for M ≥ 1
 pub station-count : lastOf 0 + 1 ≡ 20480
 unfolding lastOf
 station-count = refl
 
-pub station-count-revolving : (m : ℕ) → 1 ≤ m → lastOf m + 1 ≡ 8191
-station-count-revolving m h = ap (λ (n : ℕ). n + 1) (revolving m h)
+pub station-count-revolving : (revolutions : ℕ) → 1 ≤ revolutions → lastOf revolutions + 1 ≡ 8191
+station-count-revolving revolutions h = ap (λ (n : ℕ). n + 1) (revolving revolutions h)
 
 -- ---- a crossing: both places have times, on different sides
 

@@ -32,7 +32,7 @@ use Rattle.stations.proofs.Grids.{grid-rises}
 use Rattle.crossing_laws.proofs.BracketLaws.{bracket-holds}
 use Rattle.velocity.specs.Chosen.{upperChosen, velocitiesFinite}
 use Rattle.entries.specs.Entries.{placeOf, upperOf, takesUpper, velocitiesAt, velocitiesFor, finiteFor, endNumber, entryFor, every}
-use Rattle.solution.specs.Crossed.{sidesOf, gridOf, lastPlace, bracketsOf, entriesOf}
+use Rattle.solution.specs.Crossed.{searchOf, sidesOf, gridOf, lastPlace, bracketsOf, entriesOf}
 use Rattle.demand.specs.Demand.{Counts, pairsOf, bracketAt, entryAt, entryFinite, ChosenBy}
 
 -- ---- bytes
@@ -146,7 +146,7 @@ module _ (p : Problem) where
 
   pub timed-at : (k : ℤ) → isUnknown (sidesOf p k) ≡ false → (time : Float) × ((placeOf p k ≡ Timed time) × (finiteOf time ≡ true))
   unfolding sidesOf placeOf
-  timed-at k e = known-finite (p .triangle) (p .revolutions) (p .wanted) k e
+  timed-at k e = known-finite (searchOf p) k e
 
   pub side-at : (k : ℤ) (t : Float) → placeOf p k ≡ Timed t → sidesOf p k ≡ cond (t ≺ p .wanted) Below NotBelow
   unfolding sideOf
@@ -180,7 +180,7 @@ module _ (p : Problem) where
   -- ---- the bracket and the chosen end of a pair
 
   pub bracket-of : (i : ℕ) → Counts p i → IsBracket (sidesOf p) (gridOf p .place i) (gridOf p .place (i + 1)) (gridOf p .halvings i) (bracketAt p i)
-  bracket-of i h = bracket-holds (sidesOf p) (gridOf p) (grid-rises (p .triangle) (p .revolutions)) i (counts-crosses i h)
+  bracket-of i h = bracket-holds (sidesOf p) (gridOf p) (grid-rises (searchOf p)) i (counts-crosses i h)
 
   takes-is : (r : Bracket) (a b : Float) → placeOf p (r .lower) ≡ Timed a → placeOf p (r .upper) ≡ Timed b → takesUpper p r ≡ upperChosen a b (p .wanted)
   unfolding takesUpper

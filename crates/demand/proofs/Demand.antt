@@ -33,7 +33,7 @@ use Rattle.stations.proofs.Grids.{grid-rises}
 use Rattle.solution.specs.declared.Outcome.{Outcome}
 use Rattle.solution.specs.declared.Outcome.the-variants.{Refused, Answered}
 use Rattle.entries.specs.Entries.{entryFor, finiteFor, every}
-use Rattle.solution.specs.Crossed.{sidesOf, gridOf, lastPlace, entriesOf}
+use Rattle.solution.specs.Crossed.{searchOf, sidesOf, gridOf, lastPlace, entriesOf}
 use Rattle.solution.specs.Table.{crossingCount, anyVoid, allFinite, lateChecks}
 use Rattle.solution.specs.Solve.{Solved, refused, answered, settledOf, after, solveOf}
 use Rattle.demand.specs.Demand.{problemFrom, tableOf, rowOf, HasAnswer, Demand1, Past, Counts, pairsOf, bracketAt, entryAt, FiniteAll, FiniteNot, TimedAll, VoidSome, NonePair, Pairs, Answer, Demand3}
@@ -217,7 +217,7 @@ module _ (s b : List ℕ) where
         record {
           listed = pair-listed;
           rising = rises (sidesOf p) (gridOf p) (lastPlace p);
-          neighbours = grid-rises (p .triangle) (p .revolutions) .next;
+          neighbours = grid-rises (searchOf p) .next;
           bracket = bracket-of p;
           lowerEnd = lower-of p;
           halvings = halvings-of p;

@@ -10,12 +10,17 @@ use Rattle.stations.specs.Stations.{lastOf}
 use Rattle.stations.specs.SearchGrid.{gridFor, lastFor}
 use Rattle.sweep.specs.Crossings.{brackets}
 use Rattle.bisection.specs.declared.Bracket.{Bracket}
+use Rattle.stations.specs.declared.search.Search.{Search}
 use Rattle.stations.specs.declared.side.Side.{Side}
 use Rattle.entries.specs.Entries.{entryFor}
 
+-- what a problem's sweep looks for
+abbrev pub searchOf : Problem → Search
+searchOf p = record { triangle = p .triangle; revolutions = p .revolutions; wanted = p .wanted }
+
 -- which side of the wanted time each place of a problem is on
 unfoldable pub sidesOf : Problem → ℤ → Side
-sidesOf p = sideAt (p .triangle) (p .revolutions) (p .wanted)
+sidesOf p = sideAt (searchOf p)
 
 -- the index of the last station
 abbrev pub lastStation : Problem → ℕ
@@ -23,10 +28,10 @@ lastStation p = lastOf (p .revolutions)
 
 -- the places that are looked at and the index of the last one, and the brackets of all crossings in rising x
 abbrev pub gridOf : Problem → Grid
-gridOf p = gridFor (p .triangle) (p .revolutions)
+gridOf p = gridFor (searchOf p)
 
 abbrev pub lastPlace : Problem → ℕ
-lastPlace p = lastFor (p .triangle) (p .revolutions)
+lastPlace p = lastFor (searchOf p)
 
 unfoldable pub bracketsOf : Problem → List Bracket
 bracketsOf p = brackets (sidesOf p) (gridOf p) (lastPlace p)

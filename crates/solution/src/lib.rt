@@ -8,6 +8,7 @@ mod numbers;
 use entrance::Judged;
 use entrance::Problem;
 use numbers::late_number;
+use stations::Search;
 
 // What comes of a question: the number of its refusal, or how many entries its answer has.
 pub enum Outcome {
@@ -31,7 +32,12 @@ fn settle(p: Problem, answer: &mut [u8]) -> Outcome
     ensures { λ r. ⌜ (r ≡ settledOf p (now (answer .entry)) .outcome) × (now (answer .exit) ≡ settledOf p (now (answer .entry)) .buffer) ⌝ }
 {
     let triangle = p.triangle;
-    let found = sweep::find_crossings(triangle, p.revolutions, p.wanted);
+    let search = Search {
+        triangle,
+        revolutions: p.revolutions,
+        wanted: p.wanted,
+    };
+    let found = sweep::find_crossings(search);
     let list = found.list;
     let walk = found.walk;
     let finite = entries::all_finite(p, list, found.count);

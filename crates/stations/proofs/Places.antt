@@ -62,6 +62,6 @@ cond-most : (b : Bool) → cond b 16384 4095 + 4095 ≤ 20479
 cond-most true = omega arith
 cond-most false = omega arith
 
-pub last-most : (m : ℕ) → lastOf m ≤ 20479
+pub last-most : (revolutions : ℕ) → lastOf revolutions ≤ 20479
 unfolding lastOf
-last-most m = cond-most (eqb m 0)
+last-most revolutions = cond-most (eqb revolutions 0)

@@ -1,13 +1,12 @@
 -- Sides (01, Stations, sides, crossings): which side of the wanted time a place is on. Definitions only.
-use Prim.Native.Nat.{ℕ}
 use mathlib.Core.Bool.{Bool, true, false, cond}
 use lib.IntN.{ℤ}
 use lib.Ieee.{Float}
 use Rattle.float64.specs.Notation.{_≺_}
-use Rattle.geometry.specs.declared.Triangle.{Triangle}
 use Rattle.flight_time.specs.Time.{timeOf}
 use Rattle.flight_time.specs.declared.Place.{Place}
 use Rattle.flight_time.specs.declared.Place.the-variants.{Timed, Void}
+use Rattle.stations.specs.declared.search.Search.{Search}
 use Rattle.stations.specs.declared.side.Side.{Side}
 use Rattle.stations.specs.declared.side.Side.the-variants.{Below, NotBelow, Unknown}
 
@@ -16,9 +15,9 @@ unfoldable pub sideOf : Place → Float → Side
 sideOf (Timed time) wanted = cond (time ≺ wanted) Below NotBelow
 sideOf Void wanted = Unknown
 
--- the side of the place k of a triangle, with m whole revolutions and a wanted time
-unfoldable pub sideAt : Triangle → ℕ → Float → ℤ → Side
-sideAt triangle m wanted k = sideOf (timeOf triangle k m) wanted
+-- the side of the place k in a search: of its triangle's time there, with its whole revolutions, and of its wanted time
+unfoldable pub sideAt : Search → ℤ → Side
+sideAt search k = sideOf (timeOf (search .triangle) k (search .revolutions)) (search .wanted)
 
 -- both places have times, on different sides
 abbrev pub opposite : Side → Side → Bool

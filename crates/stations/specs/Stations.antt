@@ -10,4 +10,4 @@ stationOf i = (pos i -ℤ pos 4095) *ℤ pos (2 ^ 20)
 
 -- the index of the last station: j is 16384 there for M = 0, and 4095 for M ≥ 1
 unfoldable pub lastOf : ℕ → ℕ
-lastOf m = cond (eqb m 0) 16384 4095 + 4095
+lastOf revolutions = cond (eqb revolutions 0) 16384 4095 + 4095

@@ -4,10 +4,11 @@ ghost use mathlib.Core.Path.{_≡_};
 ghost use Rattle.stations.specs.Sides.{sideAt};
 ghost use Rattle.stations.specs.Stations.{stationOf, lastOf};
 
+mod search;
 mod side;
 
 use flight_time::Place;
-use geometry::Triangle;
+pub use search::Search;
 pub use side::Side;
 pub use side::are_opposite;
 pub use side::is_unknown;
@@ -24,14 +25,14 @@ pub fn station(i: u16) -> i64
 }
 
 // The index of the last station.
-pub fn last_station(m: u16) -> u16
-    ensures { λ r. ⌜ r ≡ lastOf m ⌝ }
+pub fn last_station(revolutions: u16) -> u16
+    ensures { λ r. ⌜ r ≡ lastOf revolutions ⌝ }
 {
-    if m == 0 { 20479 } else { 8190 }
+    if revolutions == 0 { 20479 } else { 8190 }
 }
 
-pub fn side_of_station(triangle: Triangle, m: u16, wanted: f64, i: u16) -> Side
-    ensures { λ r. ⌜ r ≡ sideAt triangle m wanted (stationOf i) ⌝ }
+pub fn side_of_station(search: Search, i: u16) -> Side
+    ensures { λ r. ⌜ r ≡ sideAt search (stationOf i) ⌝ }
 {
-    side_at(triangle, m, wanted, station(i))
+    side_at(search, station(i))
 }

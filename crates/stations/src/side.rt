@@ -1,8 +1,8 @@
 // The side of the wanted time that a place is on.
 ghost use mathlib.Core.Path.{_≡_};
 ghost use Rattle.stations.specs.Sides.{sideOf, sideAt, opposite, isUnknown};
+use crate::Search;
 use flight_time::Place;
-use geometry::Triangle;
 
 // A place with a time is below the wanted time or not below it. A void place is on no side, and
 // `Unknown` says that.
@@ -12,10 +12,14 @@ pub enum Side {
     Unknown,
 }
 
-pub fn side_at(triangle: Triangle, m: u16, wanted: f64, k: i64) -> Side
-    ensures { λ r. ⌜ r ≡ sideAt triangle m wanted k ⌝ }
+pub fn side_at(search: Search, k: i64) -> Side
+    ensures { λ r. ⌜ r ≡ sideAt search k ⌝ }
 {
-    side_of(flight_time::time_at(triangle, k, m), wanted)
+    let triangle = search.triangle;
+    side_of(
+        flight_time::time_at(triangle, k, search.revolutions),
+        search.wanted,
+    )
 }
 
 fn side_of(place: Place, wanted: f64) -> Side

@@ -6,12 +6,14 @@ use lib.Dec.{ltb}
 use lib.ListN.{length, take, replicate}
 use lib.IntN.{ℤ, pos}
 use Rattle.bisection.specs.declared.Bracket.{Bracket}
+use Rattle.stations.specs.declared.search.Search.{Search}
 use Rattle.stations.specs.declared.side.Side.{Side}
 use Rattle.sweep.specs.declared.Crossings.{Crossings}
 use Rattle.sweep.specs.declared.Walk.{Walk}
 use Rattle.sweep.specs.declared.Walk.the-variants.{AllTimed, SomeVoid, NinthFound}
-use Rattle.stations.specs.Sides.{isUnknown}
+use Rattle.stations.specs.Sides.{sideAt, isUnknown}
 use Rattle.stations.specs.Grid.{Grid}
+use Rattle.stations.specs.SearchGrid.{gridFor, lastFor}
 use Rattle.bisection.specs.Pairs.{crosses, bracketOf}
 
 -- 0, 1, .., n - 1
@@ -64,3 +66,7 @@ reported bs void =
 -- all that a sweep says of the places of a grid up to `last`
 unfoldable pub sweepOf : (ℤ → Side) → Grid → ℕ → Crossings
 sweepOf σ g last = reported (brackets σ g last) (someVoid σ g last)
+
+-- all that a search finds: the sweep of its sides over its grid
+abbrev pub sweepFor : Search → Crossings
+sweepFor search = sweepOf (sideAt search) (gridFor search) (lastFor search)

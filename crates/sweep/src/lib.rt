@@ -2,12 +2,10 @@
 // walked in rising x, and each of the first eight neighbouring pairs on different sides is halved
 // down to a bracket.
 ghost use mathlib.Core.Path.{_≡_};
-ghost use Rattle.stations.specs.Sides.{sideAt};
-ghost use Rattle.stations.specs.SearchGrid.{gridFor, lastFor};
-ghost use Rattle.sweep.specs.Crossings.{walkOf, sweepOf};
+ghost use Rattle.sweep.specs.Crossings.{walkOf, sweepFor};
 pub use bisection::Bracket;
 use bisection::bracket_of;
-use geometry::Triangle;
+use stations::Search;
 use stations::Side;
 use stations::are_opposite;
 use stations::is_unknown;
@@ -30,11 +28,11 @@ pub struct Crossings {
     pub walk: Walk,
 }
 
-// The crossings of the wanted time T* with m whole revolutions.
-pub fn find_crossings(triangle: Triangle, m: u16, wanted: f64) -> Crossings
-    ensures { λ r. ⌜ r ≡ sweepOf (sideAt triangle m wanted) (gridFor triangle m) (lastFor triangle m) ⌝ }
+// The crossings of the wanted time, at the places of the search's grid.
+pub fn find_crossings(search: Search) -> Crossings
+    ensures { λ r. ⌜ r ≡ sweepFor search ⌝ }
 {
-    let last = last_station(m);
+    let last = last_station(search.revolutions);
     let blank = Bracket {
         lower: 0,
         upper: 0,
@@ -46,12 +44,12 @@ pub fn find_crossings(triangle: Triangle, m: u16, wanted: f64) -> Crossings
     let mut low = Side::Unknown; // There is no station before the first.
     let mut i: u16 = 0;
     'stations: while i <= last {
-        let high = side_of_station(triangle, m, wanted, i);
+        let high = side_of_station(search, i);
         if are_opposite(low, high) {
             if count == 8 {
                 break 'stations;
             }
-            list[count] = bracket_of(triangle, m, wanted, i - 1);
+            list[count] = bracket_of(search, i - 1);
             count += 1;
         }
         void = void | is_unknown(high);

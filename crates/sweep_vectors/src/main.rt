@@ -5,6 +5,7 @@ ghost use mathlib.Core.Path.{_≡_};
 ghost use Rattle.little_endian.specs.Bytes.{numberAt};
 use libc::STDIN_FILENO;
 use libc::STDOUT_FILENO;
+use stations::Search;
 use sweep::Bracket;
 use sweep::Crossings;
 use sweep::Walk;
@@ -16,9 +17,12 @@ fn wanted_bits(frame: &[u8]) -> u64
 }
 
 fn crossings_of(frame: &[u8]) -> Crossings {
-    let triangle = time_bits::with_lambda(little_endian::word_at(frame, 0));
-    let m = (little_endian::word_at(frame, 16) % 65536) as u16;
-    sweep::find_crossings(triangle, m, float64::from_bits(wanted_bits(frame)))
+    let search = Search {
+        triangle: time_bits::with_lambda(little_endian::word_at(frame, 0)),
+        revolutions: (little_endian::word_at(frame, 16) % 65536) as u16,
+        wanted: float64::from_bits(wanted_bits(frame)),
+    };
+    sweep::find_crossings(search)
 }
 
 fn print_walk(walk: Walk) {

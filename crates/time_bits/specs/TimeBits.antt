@@ -10,4 +10,4 @@ unfoldable pub withLambda : ℕ → Triangle
 withLambda b = record { lambda = bits b; semiperimeter = 1F; chord = 1F ⊖ bits b ⊗ bits b; rho = 0F; sigma = 1F }
 
 unfoldable pub timeBitsOf : ℕ → ℤ → ℕ → ℕ
-timeBitsOf b k m = placeBits (timeOf (withLambda b) k m)
+timeBitsOf b k revolutions = placeBits (timeOf (withLambda b) k revolutions)

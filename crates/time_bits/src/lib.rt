@@ -4,6 +4,7 @@ ghost use mathlib.Core.Path.{_≡_};
 ghost use Rattle.time_bits.specs.SweepNumber.{walkNumber, sweepNumberOf};
 ghost use Rattle.time_bits.specs.TimeBits.{withLambda, timeBitsOf};
 use geometry::Triangle;
+use stations::Search;
 use sweep::Walk;
 
 // A triangle with the given lambda: the chord is 1 - lambda^2 of the semiperimeter, and the time asks
@@ -21,13 +22,13 @@ pub fn with_lambda(b: u64) -> Triangle
     }
 }
 
-// The bits of the time at the place k with m whole revolutions, for the lambda with the bits b, or
-// all ones where the place is void.
+// The bits of the time at the place k with so many whole revolutions, for the lambda with the bits b,
+// or all ones where the place is void.
 #[no_mangle]
-pub extern "C" fn lambert_time_bits(b: u64, k: i64, m: u16) -> u64
-    ensures { λ r. ⌜ r ≡ timeBitsOf b k m ⌝ }
+pub extern "C" fn lambert_time_bits(b: u64, k: i64, revolutions: u16) -> u64
+    ensures { λ r. ⌜ r ≡ timeBitsOf b k revolutions ⌝ }
 {
-    flight_time::place_bits(flight_time::time_at(with_lambda(b), k, m))
+    flight_time::place_bits(flight_time::time_at(with_lambda(b), k, revolutions))
 }
 
 fn walk_number(walk: Walk) -> u64
@@ -40,13 +41,18 @@ fn walk_number(walk: Walk) -> u64
     }
 }
 
-// How many crossings are listed for the lambda with the bits b, m whole revolutions and the wanted time
-// with the bits w; 16 more where some station is void, or 32 more where there is a ninth crossing.
+// How many crossings are listed for the lambda with the bits b, so many whole revolutions and the wanted
+// time with the bits w; 16 more where some station is void, or 32 more where there is a ninth crossing.
 #[no_mangle]
-pub extern "C" fn lambert_sweep_number(b: u64, m: u16, w: u64) -> u64
-    ensures { λ r. ⌜ r ≡ sweepNumberOf b m w ⌝ }
+pub extern "C" fn lambert_sweep_number(b: u64, revolutions: u16, w: u64) -> u64
+    ensures { λ r. ⌜ r ≡ sweepNumberOf b revolutions w ⌝ }
 {
-    let found = sweep::find_crossings(with_lambda(b), m, float64::from_bits(w));
+    let search = Search {
+        triangle: with_lambda(b),
+        revolutions,
+        wanted: float64::from_bits(w),
+    };
+    let found = sweep::find_crossings(search);
     let walk = found.walk;
     walk_number(walk) + found.count as u64
 }

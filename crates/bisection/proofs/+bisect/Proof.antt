@@ -17,7 +17,7 @@ use Rattle.bisection.proofs.+bisect.{statement}
 use Rattle.bisection.proofs.+bisect.Tie.{close}
 
 abbrev μ-bisect : Measures 0 bisect-kinds.ps ℕ
-μ-bisect κs a = 20 - a .1 .1 .1 .1 .1 .1 .0
+μ-bisect κs a = 20 - a .1 .1 .1 .1 .0
 
 -- what `bisect` is given at the measure t, and what it may count on of the calls, its own below t
 abbrev bisect-at : ℕ → In 0 bisect-kinds.ps
@@ -50,13 +50,12 @@ module _ (t : ℕ) where
   -- the side that was found is that of the middle
   here : (c : bisect-lts.After-side-at (calls t) (bisect-at t) bisect.Post) →
       c .side-at .result
-      ≡ sideAt (c .before .before .args .triangle) (c .before .before .args .m) (c .before .before .args .wanted)
-      (mid (c .before .before .pre .1) (more (c .before)))
+      ≡ sideAt (c .before .before .args .search) (mid (c .before .before .pre .1) (more (c .before)))
   here c =
       let k = c .before in
       let a = k .before .args in
       c .side-at .ensures
-      ∙ ap (sideAt (a .triangle) (a .m) (a .wanted)) (mid-read (k .before .pre .1) (more k) (k .before .fits .a) (k .before .fits .b))
+      ∙ ap (sideAt (a .search)) (mid-read (k .before .pre .1) (more k) (k .before .fits .a) (k .before .fits .b))
 
   sub-if1 : bisect-lts.Need-sub-if1 (calls t) (bisect-at t) bisect.Post
   sub-if1 c = width-fits (c .pre .1) (c .fits .a) (c .fits .b)

@@ -23,7 +23,7 @@ bisect-requires c κs =
     let lower = station-read (k .station .ensures) (omega arith) in
     rw (upper-read (k .station .ensures) (omega arith), lower)
     (record {
-      side = c .side-at .ensures ∙ ap (sideAt (a .triangle) (a .m) (a .wanted)) lower;
+      side = c .side-at .ensures ∙ ap (sideAt (a .search)) lower;
       upperIs = next-station _;
       most = omega arith;
       room = station-room _ (omega arith);

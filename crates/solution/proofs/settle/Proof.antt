@@ -56,8 +56,8 @@ returns c =
 write-answer-requires : tie.Need-write-answer-requires
 write-answer-requires c κs = tt
 
-cast-t13 : tie.Need-cast-t13
-cast-t13 c = omega (arith, count-most (c .before .before .before .before .before .before .before .before .before))
+cast-t14 : tie.Need-cast-t14
+cast-t14 c = omega (arith, count-most (c .before .before .before .before .before .before .before .before .before))
 
 same-length : tie.Need-same-length
 same-length c = search needs
@@ -85,6 +85,6 @@ settle-spec =
     late-number-requires
     returns
     write-answer-requires
-    cast-t13
+    cast-t14
     same-length
     returns-2)

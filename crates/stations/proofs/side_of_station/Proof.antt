@@ -14,8 +14,9 @@ side-at-requires c κs = tt
 
 returns : tie.Need-returns
 returns c =
-    let a = c .before .before .args in
-    c .side-at .ensures ∙ ap (sideAt (a .triangle) (a .m) (a .wanted)) (station-read (c .before .station .ensures) (omega arith))
+    let place = c .before in
+    let search = place .before .args .search in
+    c .side-at .ensures ∙ ap (sideAt search) (station-read (place .station .ensures) (omega arith))
 
 pub side-of-station-spec : {M : Type 1} → statement M
 side-of-station-spec = tie.close (tie.spec station-requires side-at-requires returns)

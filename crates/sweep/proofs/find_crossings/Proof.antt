@@ -14,11 +14,10 @@ use Rattle.sweep.proofs.find_crossings.Statement.{statement}
 use Rattle.sweep.proofs.find_crossings.Tie as tie
 
 abbrev Inv-stations : tie.InvT-stations
-Inv-stations triangle m wanted last list₀ count₀ void₀ low₀ i₀ list count void low i =
-    Passed (sideAt triangle m wanted) stations last list count void low i
+Inv-stations search last list₀ count₀ void₀ low₀ i₀ list count void low i = Passed (sideAt search) stations last list count void low i
 
 abbrev μ-stations : tie.MeasureT-stations
-μ-stations triangle m wanted last list₀ count₀ void₀ low₀ i₀ list count void low i = last + 1 - i
+μ-stations search last list₀ count₀ void₀ low₀ i₀ list count void low i = last + 1 - i
 
 last-station-requires : tie.Need-last-station-requires Inv-stations μ-stations
 last-station-requires c κs = tt
@@ -28,7 +27,7 @@ stations-holds c = starts _ _ _
 
 -- in a turn i is at most the last station, and so small
 small : (c : tie.In-stations Inv-stations μ-stations) → c .before .stations .i ≤ 20479
-small c = omega (arith, c .stations-test .taken, c .before .before .last-station .ensures, last-most (c .before .before .before .args .m))
+small c = omega (arith, c .stations-test .taken, c .before .before .last-station .ensures, last-most (c .before .before .before .args .search .revolutions))
 
 side-of-station-requires : tie.Need-side-of-station-requires Inv-stations μ-stations
 side-of-station-requires c κs = tt

@@ -4,17 +4,13 @@ use mathlib.Core.Path.{_≡_, sym, ap, subst, _∙_}
 use native.Mathlib.Omega.{arith}
 use borrow.Author.Needs.{needs}
 use lib.IntN.{ℤ}
-use Rattle.float64.specs.Notation.{bits}
-use Rattle.stations.specs.Sides.{sideAt}
 use Rattle.stations.specs.Grid.{Grid}
-use Rattle.stations.specs.SearchGrid.{gridFor, lastFor}
-use Rattle.sweep.specs.Crossings.{reported, sweepOf}
+use Rattle.sweep.specs.Crossings.{reported, sweepOf, sweepFor}
 use Rattle.sweep.specs.declared.Crossings.{Crossings}
 use Rattle.stations.specs.declared.side.Side.{Side}
 use Rattle.sweep.specs.declared.Walk.{Walk}
 use Rattle.sweep.specs.declared.Walk.the-variants.{AllTimed, SomeVoid, NinthFound}
-use Rattle.time_bits.specs.TimeBits.{withLambda}
-use Rattle.time_bits.specs.SweepNumber.{walkNumber, foundNumber, sweepNumberOf}
+use Rattle.time_bits.specs.SweepNumber.{walkNumber, foundNumber, searchOf, sweepNumberOf}
 use Rattle.time_bits.proofs.lambert_sweep_number.Statement.{statement}
 use Rattle.time_bits.proofs.lambert_sweep_number.Tie as tie
 
@@ -31,7 +27,7 @@ walk-small NinthFound = omega arith
 found-is :
     (c : tie.After-find-crossings) →
     let a = c .before .before .before .args in
-    c .find-crossings .result ≡ sweepOf (sideAt (withLambda (a .b)) (a .m) (bits (a .w))) (gridFor (withLambda (a .b)) (a .m)) (lastFor (withLambda (a .b)) (a .m))
+    c .find-crossings .result ≡ sweepFor (searchOf (a .b) (a .revolutions) (a .w))
 found-is c = simp (c .before .before .with-lambda .ensures, c .before .from-bits .ensures) at (c .find-crossings .ensures)
 
 with-lambda-requires : tie.Need-with-lambda-requires

@@ -13,7 +13,10 @@ side-of-requires c κs = search needs
 
 returns : tie.Need-returns
 unfolding sideAt
-returns c = simp (c .side-of .ensures, c .before .time-at .ensures, toZ-ofZ (c .before .before .fits .k))
+returns c =
+    let timed = c .before in
+    let start = timed .before .before in
+    simp (c .side-of .ensures, timed .time-at .ensures, toZ-ofZ (start .fits .k))
 
 pub side-at-spec : {M : Type 1} → statement M
 side-at-spec = tie.close (tie.spec time-at-requires side-of-requires returns)
