@@ -45,7 +45,8 @@ shapeOf p1 p2 long =
       triangle = triangleOf r1 r2 (rootOrNan (normSquared (difference p2 p1))) long;
     }
 
--- the unit vectors (01, Velocities), for the same positions and way as the shape: the normal n = h / √hh, negated for the long way, and u_i = position / r_i by component
+-- the unit vectors (01, Velocities), for the same positions and way as the shape: the normal n = h / √hh, negated for
+-- the long way, and u_i = position / r_i by component
 unfoldable pub frameOf : Vector → Vector → Shape → Bool → Frame
 frameOf p1 p2 g long =
     let n = dividedBy (g .h) (rootOrNan (g .hh)) in

@@ -3,14 +3,14 @@
 ghost use mathlib.Core.Path.{_≡_};
 ghost use Rattle.hypergeometric.specs.Steps.{yOf, etaOf, c1Of, nextC, halfAnglesOf, s4Of, backOf, gOf};
 
-mod series;
 mod results;
+mod series;
 
 use float64::Root;
-use series::series;
 pub use results::Angles;
 pub use results::HalfAngles;
 pub use results::StepValue;
+use series::series;
 
 // The root y of 1 - L^2 u.
 pub fn y_at(l: f64, u: f64) -> Root

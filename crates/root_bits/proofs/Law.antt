@@ -1,4 +1,5 @@
--- What the bits of `rootBitsOf` stand for: the root of the f64 with the bits b (`root-bits-law`), and all ones exactly where that root is refused (`ones-refused`).
+-- What the bits of `rootBitsOf` stand for: the root of the f64 with the bits b (`root-bits-law`), and all ones exactly
+-- where that root is refused (`ones-refused`).
 use mathlib.Core.Path.{_≡_, refl, sym, ap, _∙_}
 use mathlib.Core.Bool.{true, true≢false}
 use Prim.Native.Nat.{ℕ}

@@ -6,7 +6,8 @@ use Rattle.float64.specs.Value.{magnitudeOf, finiteOf}
 use Rattle.float64.specs.declared.Vector.{Vector}
 use Rattle.velocity.specs.declared.Velocities.{Velocities}
 
--- whether the upper end is chosen, of the times at the lower end and at the upper and of the wanted time: it has the smaller |T − T*|; a tie takes the lower, and so does a comparison with a NaN
+-- whether the upper end is chosen, of the times at the lower end and at the upper and of the wanted time: it has the
+-- smaller |T − T*|; a tie takes the lower, and so does a comparison with a NaN
 unfoldable pub upperChosen : Float → Float → Float → Bool
 upperChosen lower upper wanted = magnitudeOf (upper ⊖ wanted) ≺ magnitudeOf (lower ⊖ wanted)
 

@@ -32,8 +32,18 @@ velocity-along-requires-2 c κs = search needs
 returns : tie.Need-returns
 unfolding velocitiesOf
 returns c =
-    let s = c .before .before .before .before .before in
-    simp (c .velocity-along2 .ensures, c .before .velocity-along .ensures, s .speeds-at .ensures, s .before .gamma .ensures, s .before .before .y-or-nan .ensures, x-is (s .before .before .before))
+    let speeds = c .before .before .before .before .before in
+    let γ = speeds .before in
+    let y = γ .before in
+    let x = y .before in
+    simp (
+      c .velocity-along2 .ensures,
+      c .before .velocity-along .ensures,
+      speeds .speeds-at .ensures,
+      γ .gamma .ensures,
+      y .y-or-nan .ensures,
+      x-is x,
+    )
 
 pub velocities-at-spec : {M : Type 1} → statement M
 velocities-at-spec =
