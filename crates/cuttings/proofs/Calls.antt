@@ -1,4 +1,5 @@
--- What a call makes of a piece where some bytes are kept that are not finished, by what has come of them together (`call`): nothing, a length that is refused, or a finished question.
+-- What a call makes of a piece where some bytes are kept that are not finished, by what has come of them together
+-- (`call`): nothing, a length that is refused, or a finished question.
 use mathlib.Core.Path.{_≡_, refl, _∙_}
 use mathlib.Core.List.{List, [], _++_}
 use Prim.Native.Nat.{ℕ, _-_, _<_}
@@ -43,7 +44,8 @@ call s p j = rw (kept-is j) (by (judged (s ++ p)) (verdict refl))
         let front = laid-front size (written blank s) held (omega (arith, whole-fits k .1)) (omega arith) in
         rw (kept-is j) (finished k (part-ends p j k) (front ∙ take-take size size (s ++ p) (omega arith)))
     by Nothing k =
-        let over : written (written blank s) (s ++ p) ≡ written blank (s ++ p) = laid-over blank s (s ++ p) (omega (arith, length-append s p)) (omega (arith, part-fits k)) in
+        let over : written (written blank s) (s ++ p) ≡ written blank (s ++ p) =
+        laid-over blank s (s ++ p) (omega (arith, length-append s p)) (omega (arith, part-fits k)) in
         rw (kept-is j, over) (nothing k)
     by BadLength k = bad k
     by NeedsReset k = never-reset k

@@ -1,11 +1,13 @@
--- Streams that begin with 01's worked question, fed in pieces and computed: a question cut twice with the begin of another behind it, and a length that is refused and cut in two; a question with other faults, and lengths that are not whole or only just.
+-- Streams that begin with 01's worked question, fed in pieces and computed: a question cut twice with the begin of
+-- another behind it, and a length that is refused and cut in two; a question with other faults, and lengths that are
+-- not whole or only just.
 use mathlib.Core.Path.{_≡_, refl}
 use mathlib.Core.List.{List, [], _∷_, _++_}
 use Prim.Native.Nat.{ℕ, _+_}
 use lib.ListN.{take, drop}
 use Rattle.little_endian.specs.Bytes.{bytesOf, numberAt, hasRoom, written}
 use Rattle.records.specs.Layout.{LENGTH, questionLengths, questionFields, encode}
-use Rattle.link_reader.specs.Reading.{keptOf, asNew, afterRefusal, isAmong, judged, cameOf, stepBy, readOf}
+use Rattle.link_reader.specs.Reading.{number, keptOf, asNew, afterRefusal, isAmong, judged, cameOf, stepBy, readOf}
 use Rattle.cuttings.specs.Feeding.{question, refusal, givenBy, feedFor, feed, feedAll}
 
 abbrev ONE : ℕ
@@ -33,21 +35,27 @@ abbrev pub cut-over : List (List ℕ)
 cut-over = (worked ++ take 2 over) ∷ drop 2 over ∷ []
 
 pub question-cut : (feedAll asNew cut .given ≡ question worked ∷ []) × (keptOf (feedAll asNew cut .reader) ≡ take 5 worked)
-unfolding worked questionFields encode bytesOf numberAt hasRoom written questionLengths isAmong judged cameOf stepBy readOf givenBy feedFor feed feedAll
+unfolding worked questionFields encode bytesOf numberAt hasRoom written questionLengths isAmong judged cameOf stepBy readOf givenBy feedFor
+    feed feedAll
 question-cut = (refl, refl)
 
-pub length-cut : (feedAll asNew cut-over .given ≡ question worked ∷ refusal 1 ∷ []) × (feedAll asNew cut-over .reader ≡ afterRefusal)
-unfolding worked over questionFields encode bytesOf numberAt hasRoom written questionLengths isAmong judged cameOf stepBy readOf givenBy feedFor feed feedAll
+pub length-cut : (feedAll asNew cut-over .given ≡ question worked ∷ refusal (number 1) ∷ [])
+    × (feedAll asNew cut-over .reader ≡ afterRefusal)
+unfolding worked over questionFields encode bytesOf numberAt hasRoom written questionLengths isAmong judged cameOf stepBy readOf givenBy
+    feedFor feed feedAll
 length-cut = (refl, refl)
 
 pub fault-given-out : feedAll asNew (faulty ∷ []) .given ≡ question faulty ∷ []
-unfolding faulty questionFields encode bytesOf numberAt hasRoom written questionLengths isAmong judged cameOf stepBy readOf givenBy feedFor feed feedAll
+unfolding faulty questionFields encode bytesOf numberAt hasRoom written questionLengths isAmong judged cameOf stepBy readOf givenBy feedFor
+    feed feedAll
 fault-given-out = refl
 
 pub not-judged-early : (feedAll asNew (take 3 over ∷ []) .given ≡ []) × (keptOf (feedAll asNew (take 3 over ∷ []) .reader) ≡ take 3 over)
-unfolding over questionFields encode bytesOf numberAt hasRoom written questionLengths isAmong judged cameOf stepBy readOf givenBy feedFor feed feedAll
+unfolding over questionFields encode bytesOf numberAt hasRoom written questionLengths isAmong judged cameOf stepBy readOf givenBy feedFor
+    feed feedAll
 not-judged-early = (refl, refl)
 
-pub judged-at-once : feedAll asNew (high ∷ []) .given ≡ refusal 1 ∷ []
-unfolding high questionFields encode bytesOf numberAt hasRoom written questionLengths isAmong judged cameOf stepBy readOf givenBy feedFor feed feedAll
+pub judged-at-once : feedAll asNew (high ∷ []) .given ≡ refusal (number 1) ∷ []
+unfolding high questionFields encode bytesOf numberAt hasRoom written questionLengths isAmong judged cameOf stepBy readOf givenBy feedFor
+    feed feedAll
 judged-at-once = refl

@@ -1,4 +1,5 @@
--- More bytes change what has come only where nothing had (`bad-more`, `whole-more`), and they end a question that they finish (`part-ends`): the length's own bytes decide.
+-- More bytes change what has come only where nothing had (`bad-more`, `whole-more`), and they end a question that they
+-- finish (`part-ends`): the length's own bytes decide.
 use mathlib.Core.Path.{_≡_, sym, ap, _∙_}
 use mathlib.Core.List.{List, _++_}
 use Prim.Native.Nat.{ℕ, _≤_, _<_}
@@ -37,7 +38,8 @@ pub whole-is : {s : List ℕ} {size : ℕ} → Verdict s (Question size) → IsQ
 whole-is {s} {size} (whole n f l e) =
     let q = take size s in
     let long : length q ≡ size = length-take-le size s (omega arith) in
-    let same : valueOf LENGTH s ≡ valueOf LENGTH q = ap (valueOf LENGTH) (sym (take-append-drop size s)) ∙ value-front q (drop size s) (omega arith) in
+    let same : valueOf LENGTH s ≡ valueOf LENGTH q =
+    ap (valueOf LENGTH) (sym (take-append-drop size s)) ∙ value-front q (drop size s) (omega arith) in
     record { sized = omega arith; in-force = rw (← same) f }
 
 pub whole-alone : {s : List ℕ} {size : ℕ} → Verdict s (Question size) → Verdict (take size s) (Question size)

@@ -1,4 +1,6 @@
--- What a stream holds, in parts: its questions, and a rest that is not finished or begins with a length that is refused (`parts`, by induction on what it holds). Every state that a reader comes to goes by such a rest (`reached`, by induction on the calls).
+-- What a stream holds, in parts: its questions, and a rest that is not finished or begins with a length that is refused
+-- (`parts`, by induction on what it holds). Every state that a reader comes to goes by such a rest (`reached`, by
+-- induction on the calls).
 use mathlib.Core.Path.{_≡_, refl, ap, _∙_}
 use mathlib.Core.Bool.{true, false}
 use mathlib.Core.List.{List, [], _∷_, _++_, map, append-assoc, List·Memᴰ·not-nil as in-none, List·Memᴰ·cases-cons as in-first}
@@ -8,10 +10,11 @@ use lib.ListN.{take, take-append-drop}
 use Rattle.link_reader.specs.declared.Reader.{Reader}
 use Rattle.link_reader.specs.declared.Step.{Step}
 use Rattle.link_reader.specs.declared.Came.the-variants.{Nothing, BadLength}
-use Rattle.link_reader.specs.Reading.{keptOf, asNew, afterRefusal, readOf}
+use Rattle.link_reader.specs.Reading.{refusalOf, keptOf, asNew, afterRefusal, readOf}
 use Rattle.link_reader.specs.Verdicts.{Verdict}
 use Rattle.link_reader.proofs.Apart.{apart}
-use Rattle.cuttings.specs.Feeding.{Given, question, refusal, joined, keeping, Holds, unfinished, refused-length, next-question, IsQuestion, AllQuestions, Reached, new, called}
+use Rattle.cuttings.specs.Feeding.{Given, question, refusal, concatenation, keeping, StreamHolds, unfinished}
+use Rattle.cuttings.specs.Feeding.{refused-length, next-question, IsQuestion, AllQuestions, Reached, new, called}
 use Rattle.cuttings.proofs.More.{whole-is}
 use Rattle.cuttings.proofs.Calls.{new-keeps, kept-is, Call, nothing, bad, finished, call}
 use Rattle.cuttings.proofs.Pieces.{none-judged}
@@ -20,19 +23,21 @@ use Rattle.cuttings.proofs.Refusals.{needs-reset}
 -- what a rest gives out, and the state that it leaves
 pub data Ends (rest : List ℕ) : List Given → Reader → Type 0 where
   kept : Verdict rest Nothing → Ends rest [] (keeping rest)
-  refused : Verdict rest BadLength → Ends rest (refusal 1 ∷ []) afterRefusal
+  refused-rest : Verdict rest BadLength → Ends rest (map refusal (refusalOf BadLength)) afterRefusal
 
-pub ends-hold : {rest : List ℕ} {last : List Given} {r : Reader} → Ends rest last r → Holds rest last r
+pub ends-hold : {rest : List ℕ} {last : List Given} {r : Reader} → Ends rest last r → StreamHolds rest last r
 ends-hold (kept j) = unfinished j
-ends-hold (refused j) = refused-length j
+ends-hold (refused-rest j) = refused-length j
 
-pub kept-ends : {rest : List ℕ} {last : List Given} {r : Reader} → Ends rest last r → r .refused ≡ false → (last ≡ []) × (keptOf r ≡ rest) × Verdict rest Nothing
+pub kept-ends : {rest : List ℕ} {last : List Given} {r : Reader} → Ends rest last r → r .refused ≡ false
+    → (last ≡ []) × (keptOf r ≡ rest) × Verdict rest Nothing
 kept-ends (kept j) e = (refl, kept-is j, j)
-kept-ends (refused j) e = apart (cc)
+kept-ends (refused-rest j) e = apart (cc)
 
-pub refused-ends : {rest : List ℕ} {last : List Given} {r : Reader} → Ends rest last r → r .refused ≡ true → (last ≡ refusal 1 ∷ []) × Verdict rest BadLength × (r ≡ afterRefusal)
+pub refused-ends : {rest : List ℕ} {last : List Given} {r : Reader} → Ends rest last r → r .refused ≡ true
+    → (last ≡ map refusal (refusalOf BadLength)) × Verdict rest BadLength × (r ≡ afterRefusal)
 refused-ends (kept j) e = apart (cc)
-refused-ends (refused j) e = (refl, j, refl)
+refused-ends (refused-rest j) e = (refl, j, refl)
 
 -- ---- the parts of a stream
 
@@ -40,19 +45,19 @@ pub record Parts (stream : List ℕ) (gs : List Given) (r : Reader) : Type 0 whe
   pub questions : List (List ℕ)
   pub all : AllQuestions questions
   pub rest : List ℕ
-  pub bytes : joined questions ++ rest ≡ stream
+  pub bytes : concatenation questions ++ rest ≡ stream
   pub last : List Given
   pub given : gs ≡ map question questions ++ last
   pub ends : Ends rest last r
 
 alone : {s : List ℕ} {gs : List Given} {r : Reader} → Ends s gs r → Parts s gs r
-unfolding joined
+unfolding concatenation
 alone {s} {gs} e = record { questions = []; all = λ q i. absurd (in-none i); rest = s; bytes = refl; last = gs; given = refl; ends = e }
 
-pub parts : {s : List ℕ} {gs : List Given} {r : Reader} → Holds s gs r → Parts s gs r
-unfolding joined
+pub parts : {s : List ℕ} {gs : List Given} {r : Reader} → StreamHolds s gs r → Parts s gs r
+unfolding concatenation
 parts (unfinished e) = alone (kept e)
-parts (refused-length e) = alone (refused e)
+parts (refused-length e) = alone (refused-rest e)
 parts (next-question {stream} {size = size} e h) =
     let later = parts h in
     let first = take size stream in
@@ -61,7 +66,9 @@ parts (next-question {stream} {size = size} e h) =
       questions = first ∷ later .questions;
       all = λ q i. ⊎-elim (λ f. rw f is) (later .all q) (in-first i);
       rest = later .rest;
-      bytes = append-assoc first (joined (later .questions)) (later .rest) ∙ ap (λ (l : List ℕ). first ++ l) (later .bytes) ∙ take-append-drop size stream;
+      bytes =
+          append-assoc first (concatenation (later .questions)) (later .rest) ∙ ap (λ (l : List ℕ). first ++ l) (later .bytes)
+          ∙ take-append-drop size stream;
       last = later .last;
       given = ap (λ (l : List Given). question first ∷ l) (later .given);
       ends = later .ends;
@@ -82,7 +89,7 @@ new-stands = rw (← new-keeps) (standing (kept none-judged))
 
 call-stands : {s p : List ℕ} {c : Step} → Call s p c → Standing (c .next)
 call-stands (nothing k) = standing (kept k)
-call-stands (bad k) = standing (refused k)
+call-stands (bad k) = standing (refused-rest k)
 call-stands (finished k l same) = new-stands
 
 pub reached : {r : Reader} → Reached r → Standing r
@@ -91,4 +98,4 @@ reached (called {r} h piece) = by (reached h .ends)
   where
     by : {rest : List ℕ} {last : List Given} {t : Reader} → Ends rest last t → Standing (readOf t piece .next)
     by {rest} (kept j) = call-stands (call rest piece j)
-    by (refused j) = rw (needs-reset afterRefusal piece refl .2) (standing (refused j))
+    by (refused-rest j) = rw (needs-reset afterRefusal piece refl .2) (standing (refused-rest j))

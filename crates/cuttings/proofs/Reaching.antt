@@ -1,4 +1,6 @@
--- Of a state that a reader comes to: a call takes some of a piece where no reset is needed (`progress`), so feeding goes to the end of the piece (`feeding-ends`) and more calls change nothing (`more-calls`). By the rest that the state goes by.
+-- Of a state that a reader comes to: a call takes some of a piece where no reset is needed (`progress`), so feeding
+-- goes to the end of the piece (`feeding-ends`) and more calls change nothing (`more-calls`). By the rest that the
+-- state goes by.
 use mathlib.Core.Path.{_≡_, refl, sym, ap, _∙_}
 use mathlib.Core.Bool.{true, false}
 use mathlib.Core.List.{List, [], _∷_}
@@ -14,7 +16,7 @@ use Rattle.cuttings.proofs.Calls.{Call, nothing, bad, finished, call}
 use Rattle.cuttings.proofs.Pieces.{Comes, feed-kept}
 use Rattle.cuttings.proofs.Refusals.{needs-reset, refused-feed}
 use Rattle.cuttings.proofs.Cuttings.{holds-one}
-use Rattle.cuttings.proofs.Parts.{Ends, kept, refused, refused-ends, reached}
+use Rattle.cuttings.proofs.Parts.{Ends, kept, refused-rest, refused-ends, reached}
 use Rattle.cuttings.proofs.Taking.{kept-left}
 
 pub reached-refused : (r : Reader) → Reached r → r .refused ≡ true → r ≡ afterRefusal
@@ -25,19 +27,21 @@ call-takes (nothing k) l = l
 call-takes (bad k) l = l
 call-takes (finished k m same) l = omega arith
 
-pub progress : (r : Reader) → Reached r → (piece : List ℕ) → 0 < length piece → (refusalOf (readOf r piece .came) ≡ numberB 4 ∷ [] → ⊥) → 0 < readOf r piece .taken
+pub progress : (r : Reader) → Reached r → (piece : List ℕ) → 0 < length piece → (refusalOf (readOf r piece .came) ≡ numberB 4 ∷ [] → ⊥)
+    → 0 < readOf r piece .taken
 progress r h piece l f = by (reached h .ends) f
   where
-    by : {rest : List ℕ} {last : List Given} {t : Reader} → Ends rest last t → (refusalOf (readOf t piece .came) ≡ numberB 4 ∷ [] → ⊥) → 0 < readOf t piece .taken
+    by : {rest : List ℕ} {last : List Given} {t : Reader} → Ends rest last t → (refusalOf (readOf t piece .came) ≡ numberB 4 ∷ [] → ⊥)
+        → 0 < readOf t piece .taken
     by {rest} (kept j) g = call-takes (call rest piece j) l
-    by (refused j) g = absurd (g (needs-reset afterRefusal piece refl .0))
+    by (refused-rest j) g = absurd (g (needs-reset afterRefusal piece refl .0))
 
 pub feeding-ends : (r : Reader) → Reached r → r .refused ≡ false → (piece : List ℕ) → feed r piece .left ≡ []
 feeding-ends r h e piece = by (reached h .ends) e
   where
     by : {rest : List ℕ} {last : List Given} {t : Reader} → Ends rest last t → t .refused ≡ false → feed t piece .left ≡ []
     by (kept j) f = kept-left piece j
-    by (refused j) f = apart (cc)
+    by (refused-rest j) f = apart (cc)
 
 -- two feedings that come to the same stream
 same-fed : {s : List ℕ} {f g : Fed} → Comes s f → Comes s g → f ≡ g
@@ -52,4 +56,4 @@ more-calls r h piece calls l = by (reached h .ends)
   where
     by : {rest : List ℕ} {last : List Given} {t : Reader} → Ends rest last t → feedFor calls t piece ≡ feedFor (suc (length piece)) t piece
     by {rest} (kept j) = same-fed (feed-kept calls rest piece j l) (feed-kept (suc (length piece)) rest piece j (omega arith))
-    by (refused j) = refused-feed calls piece ∙ sym (refused-feed (suc (length piece)) piece)
+    by (refused-rest j) = refused-feed calls piece ∙ sym (refused-feed (suc (length piece)) piece)
