@@ -1,4 +1,6 @@
--- A message that came before changes nothing when it comes again, whatever came between and of however many jobs (`again-later`). By the invariant `Keeps`: joining it to what is held of its job changes nothing (`holds-again`), and where none is held of it the board is full.
+-- A message that came before changes nothing when it comes again, whatever came between and of however many jobs
+-- (`again-later`). By the invariant `Keeps`: joining it to what is held of its job changes nothing (`holds-again`), and
+-- where none is held of it the board is full.
 use mathlib.Core.Path.{_≡_, refl, sym, ap, _∙_}
 use mathlib.Core.List.{List}
 use mathlib.Core.Logic.{inl, inr, ⊎-elim}
@@ -7,7 +9,7 @@ use native.Mathlib.Omega.{arith}
 use Rattle.outcomes.specs.Outcomes.{jobOf}
 use Rattle.slots.specs.Slots.{conflictBytes}
 use Rattle.board.specs.Board.{heldOn, emptyBoard, Result, postOf}
-use Rattle.arrival_order.specs.Messages.{postAll, _∈_, AllBytes, CameFor, Holds, SomeOf}
+use Rattle.arrival_order.specs.Messages.{postAll, _∈_, AllBytes, CameFor, HeldFor, SomeOf}
 use Rattle.arrival_order.proofs.Joining.{Joining, newer, older, again, clash, joining}
 use Rattle.arrival_order.proofs.Placing.{placing, grown}
 use Rattle.arrival_order.proofs.Posting.{Posting, no-board, malformed, unnamed, full, taken, posting, taken-same}
@@ -15,7 +17,7 @@ use Rattle.arrival_order.proofs.Keeping.{conflict-at, none-higher, Keep
 use Rattle.arrival_order.proofs.Standing.{keeps-always}
 
 module _ (ms : List (List ℕ)) (m : List ℕ) (bytes : AllBytes ms) where
-  holds-again : {held c : List ℕ} → Joining held m c → Holds ms (jobOf m) held → CameFor ms (jobOf m) m → c ≡ held
+  holds-again : {held c : List ℕ} → Joining held m c → HeldFor ms (jobOf m) held → CameFor ms (jobOf m) m → c ≡ held
   holds-again (newer l) h came = absurd (omega (arith, none-higher bytes h m came))
   holds-again (older l) h came = refl
   holds-again (again s) h came = refl
@@ -35,10 +37,12 @@ module _ (ms : List (List ℕ)) (m : List ℕ) (bytes : AllBytes ms) where
       by (no-board f) e = refl
       by (malformed f g) e = refl
       by (unnamed f g h) e = refl
-      by (full f counts over) e = refl
-      by (taken f counts fits) e =
-          let s : SomeOf (jobOf m) (heldOn b) = ⊎-elim (λ n. k .each (omega (arith, n .1)) m i counts) (λ s. s .0) (grown (placing (heldOn b) m) (k .rising)) in
+      by (full f postable over) e = refl
+      by (taken f postable fits) e =
+          let s : SomeOf (jobOf m) (heldOn b) =
+          ⊎-elim (λ n. k .each (omega (arith, n .1)) m i postable) (λ s. s .0) (grown (placing (heldOn b) m) (k .rising)) in
           let held = s .0 in
           let for = s .1 .1 in
-          let same = holds-again (joining held m) (rw for at (k .holds held (s .1 .0))) (record { among = i; counts = counts; for = refl }) in
-          ap (λ (o : Result). o .board) (sym e ∙ taken-same b m held f counts (s .1 .0) for same)
+          let same =
+          holds-again (joining held m) (rw for at (k .holds held (s .1 .0))) (record { among = i; postable = postable; for = refl }) in
+          ap (λ (o : Result). o .board) (sym e ∙ taken-same b m held f postable (s .1 .0) for same)

@@ -1,4 +1,5 @@
--- 01's worked refusal posted on the empty board, and then another record of its job and revision: what is given, and every byte of both boards. A board is too long to be computed, so `next-board` computes with what it holds.
+-- 01's worked refusal posted on the empty board, and then another record of its job and revision: what is given, and
+-- every byte of both boards. A board is too long to be computed, so `next-board` computes with what it holds.
 use mathlib.Core.Path.{_≡_, refl, _∙_}
 use mathlib.Core.Bool.{Bool, true, _&&_}
 use mathlib.Core.List.{List, [], _∷_, _++_, append-assoc}
@@ -15,7 +16,7 @@ use Rattle.slots.proofs.Padding.{padded-is}
 use Rattle.slots.proofs.Zeros.{both}
 use Rattle.board.specs.declared.Posted.the-variants.{Taken}
 use Rattle.board.specs.Board.{SLOTS, boardSize, isBoard, heldOn, boardOf, emptyBoard, joined, placed, placedOn, postOf}
-use Rattle.arrival_order.specs.Messages.{AreBytes, Counts}
+use Rattle.arrival_order.specs.Messages.{AreBytes, Postable}
 use Rattle.board.proofs.Boards.{zeros, slotsIn, slots-next, slots-none}
 use Rattle.arrival_order.proofs.Posting.{judged, taken-board, starts-board}
 
@@ -53,14 +54,15 @@ record Next (b new : List ℕ) (after : List (List ℕ)) : Type 0 where
   given : postOf b new ≡ record { posted = Taken; board = boardOf after }
   holding : Holding (boardOf after) after
 
-next-board : (b new : List ℕ) (held : List (List ℕ)) → Holding b held → areBytes new ≡ true → Counts new → length (placed held new) ≤ SLOTS → Next b new (placed held new)
+next-board : (b new : List ℕ) (held : List (List ℕ)) → Holding b held → areBytes new ≡ true → Postable new
+    → length (placed held new) ≤ SLOTS → Next b new (placed held new)
 unfolding placedOn
-next-board b new held on bytes counts room =
+next-board b new held on bytes postable room =
     let room : length (placed (heldOn b) new) ≤ SLOTS = rw (on .these) room in
-    let t = taken-board b new (are-bytes new bytes) (on .board) counts room in
+    let t = taken-board b new (are-bytes new bytes) (on .board) postable room in
     rw (← on .these)
     (record {
-      given = judged b new (on .board) counts ∙ rw (le-ltb SLOTS (length (placed (heldOn b) new)) room);
+      given = judged b new (on .board) postable ∙ rw (le-ltb SLOTS (length (placed (heldOn b) new)) room);
       holding = record { board = t .0; these = t .1 };
     })
 
@@ -78,11 +80,15 @@ clash = 0x0A ∷ 0 ∷ 0 ∷ 0 ∷ 4 ∷ 0 ∷ 7 ∷ 0 ∷ 0 ∷ 0 ∷ 2 ∷ 0 �
 
 first : Next emptyBoard worked (worked ∷ [])
 unfolding placed areBytes isOutcome isRefusal isSized numberAt
-first = next-board emptyBoard worked [] (record { board = starts-board .0; these = starts-board .1 }) refl (record { formed = refl; named = omega arith }) (omega arith)
+first =
+    next-board emptyBoard worked [] (record { board = starts-board .0; these = starts-board .1 }) refl
+    (record { formed = refl; named = omega arith }) (omega arith)
 
 second : Next (boardOf (worked ∷ [])) another (clash ∷ [])
 unfolding placed joined sameBytes areBytes isOutcome isRefusal isSized conflictBytes conflictFields encode bytesOf numberAt
-second = next-board (boardOf (worked ∷ [])) another (worked ∷ []) (first .holding) refl (record { formed = refl; named = omega arith }) (omega arith)
+second =
+    next-board (boardOf (worked ∷ [])) another (worked ∷ []) (first .holding) refl (record { formed = refl; named = omega arith })
+    (omega arith)
 
 pub worked-taken : (postOf emptyBoard worked ≡ record { posted = Taken; board = alone worked }) × (heldOn (alone worked) ≡ worked ∷ [])
 worked-taken = rw (← board-alone worked (omega arith)) (first .given, first .holding .these)

@@ -1,4 +1,6 @@
--- What `joined` makes of what is held and a record of the same job, by its tests (`joining`): the later lemmas go by these four cases. It is of their job, a slot may hold it, and joining the record again changes nothing (`joined-again`), nor does joining an older one (`joined-kept`).
+-- What `joined` makes of what is held and a record of the same job, by its tests (`joining`): the later lemmas go by
+-- these four cases. It is of their job, a slot may hold it, and joining the record again changes nothing
+-- (`joined-again`), nor does joining an older one (`joined-kept`).
 use mathlib.Core.Path.{_≡_, refl, ap, _∙_}
 use mathlib.Core.Bool.{Bool, true, false, cond}
 use mathlib.Core.List.{List}
@@ -31,7 +33,8 @@ pub joining : (held new : List ℕ) → Joining held new (joined held new)
 unfolding joined
 joining held new = by (ltb (revisionOf held) (revisionOf new)) refl (ltb (revisionOf new) (revisionOf held)) refl (sameBytes held new) refl
   where
-    by : (low : Bool) → ltb (revisionOf held) (revisionOf new) ≡ low → (high : Bool) → ltb (revisionOf new) (revisionOf held) ≡ high → (same : Bool) → sameBytes held new ≡ same →
+    by : (low : Bool) → ltb (revisionOf held) (revisionOf new) ≡ low → (high : Bool) → ltb (revisionOf new) (revisionOf held) ≡ high
+        → (same : Bool) → sameBytes held new ≡ same →
         Joining held new (cond low new (cond high held (cond same held (conflictBytes (jobOf new) (revisionOf new)))))
     by true e high f same g = newer (omega (arith, ltb-true))
     by false e true f same g = older (omega (arith, ltb-true))
@@ -60,7 +63,8 @@ joined-kept (clash s d) (inl k) = absurd (omega arith)
 joined-kept (clash s d) (inr e) = absurd (d e)
 
 -- of one revision: the bytes that are held, or a conflict
-level : (held new : List ℕ) → revisionOf held ≡ revisionOf new → joined held new ≡ cond (sameBytes held new) held (conflictBytes (jobOf new) (revisionOf new))
+level : (held new : List ℕ) → revisionOf held ≡ revisionOf new
+    → joined held new ≡ cond (sameBytes held new) held (conflictBytes (jobOf new) (revisionOf new))
 unfolding joined
 level held new e = rw (e, le-ltb (revisionOf new) (revisionOf new) (omega arith))
 

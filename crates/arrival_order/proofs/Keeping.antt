@@ -1,4 +1,6 @@
--- What is held says what came, whatever the order: the invariant `Keeps` of the records that were seen and what is held of them. A record that counts, placed, keeps it (`keeps-more`), and so does one that is refused (`keeps-refused`), over any number of jobs. By the cases of `placed` and, where the job is held, of `joined`.
+-- What is held says what came, whatever the order: the invariant `Keeps` of the records that were seen and what is held
+-- of them. A postable record, placed, keeps it (`keeps-more`), and so does one that is refused (`keeps-refused`),
+-- over any number of jobs. By the cases of `placed` and, where the job is held, of `joined`.
 use mathlib.Core.Path.{_≡_, refl, sym, ap, _∙_}
 use mathlib.Core.Bool.{Bool, true, false}
 use mathlib.Core.List.{List, _∷_, List·Memᴰ·head as here, List·Memᴰ·tail as there, List·Memᴰ·cases-cons as in-first}
@@ -9,7 +11,8 @@ use lib.ListN.{length}
 use Rattle.outcomes.specs.Outcomes.{jobOf, revisionOf, isOutcome}
 use Rattle.slots.specs.Slots.{conflictBytes}
 use Rattle.board.specs.Board.{SLOTS, placed, HeldRising}
-use Rattle.arrival_order.specs.Messages.{_∈_, AreBytes, AllBytes, Counts, CameFor, OneRecord, InConflict, TwoDiffer, Holds, SomeOf, NoneOf}
+use Rattle.arrival_order.specs.Messages.{_∈_, AreBytes, AllBytes, Postable, CameFor, OneRecord}
+use Rattle.arrival_order.specs.Messages.{InConflict, TwoDiffer, HeldFor, SomeOf, NoneOf}
 use Rattle.slots.proofs.Conflicts.{conflict-revision, conflict-no-outcome}
 use Rattle.slots.proofs.Held.{outcome-held}
 use Rattle.arrival_order.proofs.Joining.{small-revision, Joining, newer, older, again, clash, joining, joined-job}
@@ -22,11 +25,12 @@ never e f = absurd (let z : _≡_ {A = ℕ} 0 1 = cc (e, f) in omega arith)
 -- ---- what is held of a job, by the records that came for it
 
 module _ {ms : List (List ℕ)} {job : ℕ} {held : List ℕ} where
-  pub some-came : Holds ms job held → (m : List ℕ) × CameFor ms job m
+  pub some-came : HeldFor ms job held → (m : List ℕ) × CameFor ms job m
   some-came (inl o) = (held, o .came)
   some-came (inr o) = (o .two .one, o .two .one-came)
 
-  conflict-in : {ns : List (List ℕ)} {new : List ℕ} → (o : InConflict ms job held) → ((m : List ℕ) → CameFor ms job m → CameFor ns job m) → ((m : List ℕ) → CameFor ns job m → revisionOf m ≤ o .revision) → new ≡ conflictBytes job (o .revision) → InConflict ns job new
+  conflict-in : {ns : List (List ℕ)} {new : List ℕ} → (o : InConflict ms job held) → ((m : List ℕ) → CameFor ms job m → CameFor ns job m)
+      → ((m : List ℕ) → CameFor ns job m → revisionOf m ≤ o .revision) → new ≡ conflictBytes job (o .revision) → InConflict ns job new
   conflict-in o forth highest e =
       let t = o .two in
       record {
@@ -52,7 +56,8 @@ module _ {ms : List (List ℕ)} {job : ℕ} {held : List ℕ} where
       is m c e = ⊎-elim (λ s. s) (λ l. absurd (omega (arith, t .highest held (o .came)))) (o .highest m c)
 
   -- it stands for these alone
-  holds-same : {ns : List (List ℕ)} → ((m : List ℕ) → CameFor ms job m → CameFor ns job m) → ((m : List ℕ) → CameFor ns job m → CameFor ms job m) → Holds ms job held → Holds ns job held
+  holds-same : {ns : List (List ℕ)} → ((m : List ℕ) → CameFor ms job m → CameFor ns job m)
+      → ((m : List ℕ) → CameFor ns job m → CameFor ms job m) → HeldFor ms job held → HeldFor ns job held
   holds-same forth back (inl o) = inl (record { came = forth held (o .came); highest = λ m c. o .highest m (back m c) })
   holds-same forth back (inr o) = inr (conflict-in o forth (λ m c. o .two .highest m (back m c)) (o .conflict))
 
@@ -61,9 +66,10 @@ module _ {ms : List (List ℕ)} {job : ℕ} {held : List ℕ} where
     pub conflict-at : (o : InConflict ms job held) → revisionOf held ≡ o .revision
     conflict-at o =
         let t = o .two in
-        ap revisionOf (o .conflict) ∙ conflict-revision job (o .revision) (rw (t .one-at) at (small-revision (t .one) (all (t .one) (t .one-came .among))))
+        ap revisionOf (o .conflict)
+        ∙ conflict-revision job (o .revision) (rw (t .one-at) at (small-revision (t .one) (all (t .one) (t .one-came .among))))
 
-    pub none-higher : Holds ms job held → (m : List ℕ) → CameFor ms job m → revisionOf m ≤ revisionOf held
+    pub none-higher : HeldFor ms job held → (m : List ℕ) → CameFor ms job m → revisionOf m ≤ revisionOf held
     none-higher (inl o) m c = ⊎-elim (λ e. omega (arith, ap revisionOf e)) (λ l. omega arith) (o .highest m c)
     none-higher (inr o) m c = omega (arith, conflict-at o, o .two .highest m c)
 
@@ -71,28 +77,32 @@ module _ {ms : List (List ℕ)} {job : ℕ} {held : List ℕ} where
 
 module _ {seen : List (List ℕ)} {m : List ℕ} where
   more : {job : ℕ} {n : List ℕ} → CameFor seen job n → CameFor (m ∷ seen) job n
-  more c = record { among = there (c .among); counts = c .counts; for = c .for }
+  more c = record { among = there (c .among); postable = c .postable; for = c .for }
 
   which : {job : ℕ} {n : List ℕ} → CameFor (m ∷ seen) job n → (n ≡ m) ⊎ CameFor seen job n
-  which c = ⊎-elim inl (λ i. inr (record { among = i; counts = c .counts; for = c .for })) (in-first (c .among))
+  which c = ⊎-elim inl (λ i. inr (record { among = i; postable = c .postable; for = c .for })) (in-first (c .among))
 
-  record-more : {job : ℕ} {held : List ℕ} → OneRecord seen job held → (m ≡ held) ⊎ (revisionOf m < revisionOf held) → OneRecord (m ∷ seen) job held
+  record-more : {job : ℕ} {held : List ℕ} → OneRecord seen job held → (m ≡ held) ⊎ (revisionOf m < revisionOf held)
+      → OneRecord (m ∷ seen) job held
   record-more o g = record { came = more (o .came); highest = λ n c. ⊎-elim (λ e. rw e g) (o .highest n) (which c) }
 
-  conflict-more : {job : ℕ} {held new : List ℕ} → (o : InConflict seen job held) → revisionOf m ≤ o .revision → new ≡ conflictBytes job (o .revision) → InConflict (m ∷ seen) job new
+  conflict-more : {job : ℕ} {held new : List ℕ} → (o : InConflict seen job held) → revisionOf m ≤ o .revision
+      → new ≡ conflictBytes job (o .revision) → InConflict (m ∷ seen) job new
   conflict-more o low e = conflict-in o (λ n c. more c) (λ n c. ⊎-elim (λ f. rw f low) (o .two .highest n) (which c)) e
 
-  module _ (all : AllBytes seen) (counts : Counts m) where
+  module _ (all : AllBytes seen) (postable : Postable m) where
     now : CameFor (m ∷ seen) (jobOf m) m
-    now = record { among = here refl; counts = counts; for = refl }
+    now = record { among = here refl; postable = postable; for = refl }
 
     -- joined to what is held of its job
-    holds-joined : {held c : List ℕ} → Joining held m c → Holds seen (jobOf m) held → Holds (m ∷ seen) (jobOf m) c
-    holds-joined (newer l) h = inl (record { came = now; highest = λ n c. ⊎-elim inl (λ s. inr (omega (arith, none-higher all h n s))) (which c) })
+    holds-joined : {held c : List ℕ} → Joining held m c → HeldFor seen (jobOf m) held → HeldFor (m ∷ seen) (jobOf m) c
+    holds-joined (newer l) h =
+        inl (record { came = now; highest = λ n c. ⊎-elim inl (λ s. inr (omega (arith, none-higher all h n s))) (which c) })
     holds-joined (older l) (inl o) = inl (record-more o (inr l))
     holds-joined (older l) (inr o) = inr (conflict-more o (omega (arith, conflict-at all o)) (o .conflict))
     holds-joined (again s) (inl o) = inl (record-more o (inl (sym s)))
-    holds-joined (again s) (inr o) = never (ap isOutcome s ∙ counts .formed) (ap isOutcome (o .conflict) ∙ conflict-no-outcome (jobOf m) (o .revision))
+    holds-joined (again s) (inr o) =
+        never (ap isOutcome s ∙ postable .formed) (ap isOutcome (o .conflict) ∙ conflict-no-outcome (jobOf m) (o .revision))
     holds-joined {held} (clash s d) (inl o) =
         inr
         (record {
@@ -115,39 +125,47 @@ module _ {seen : List (List ℕ)} {m : List ℕ} where
 
 -- ---- the invariant
 
--- rising records, each what its job's messages say; and, as long as they are not 64, one for each job of a message that counts. So a job enters with its first message, and one that a full board has no slot for never enters
+-- rising records, each what its job's messages say; and, as long as they are not 64, one for each job of a postable
+-- message. So a job enters with its first message, and one that a full board has no slot for never enters
 pub record Keeps (seen held : List (List ℕ)) : Type 0 where
   pub rising : HeldRising 0 held
-  pub holds : (c : List ℕ) → c ∈ held → Holds seen (jobOf c) c
-  pub each : length held < SLOTS → (m : List ℕ) → m ∈ seen → Counts m → SomeOf (jobOf m) held
+  pub holds : (c : List ℕ) → c ∈ held → HeldFor seen (jobOf c) c
+  pub each : length held < SLOTS → (m : List ℕ) → m ∈ seen → Postable m → SomeOf (jobOf m) held
 
 -- it goes by the messages that count, in any order and with any repeats
-pub keeps-same : {ms ns held : List (List ℕ)} → ((m : List ℕ) → Counts m → m ∈ ms → m ∈ ns) → ((m : List ℕ) → Counts m → m ∈ ns → m ∈ ms) → Keeps ms held → Keeps ns held
+pub keeps-same : {ms ns held : List (List ℕ)} → ((m : List ℕ) → Postable m → m ∈ ms → m ∈ ns)
+    → ((m : List ℕ) → Postable m → m ∈ ns → m ∈ ms) → Keeps ms held → Keeps ns held
 keeps-same forth back k = record {
   rising = k .rising;
   holds = λ c i.
-      holds-same (λ m s. record { among = forth m (s .counts) (s .among); counts = s .counts; for = s .for })
-      (λ m s. record { among = back m (s .counts) (s .among); counts = s .counts; for = s .for }) (k .holds c i);
-  each = λ room m i counts. k .each room m (back m counts i) counts;
+      holds-same (λ m s. record { among = forth m (s .postable) (s .among); postable = s .postable; for = s .for })
+      (λ m s. record { among = back m (s .postable) (s .among); postable = s .postable; for = s .for }) (k .holds c i);
+  each = λ room m i postable. k .each room m (back m postable i) postable;
 }
 
 -- a message of another job changes nothing of what is held of a job
-others : {seen : List (List ℕ)} {m : List ℕ} {job : ℕ} {held : List ℕ} → (Counts m → jobOf m ≡ job → ⊥) → Holds seen job held → Holds (m ∷ seen) job held
-others f h = holds-same (λ n s. more s) (λ n s. ⊎-elim (λ e. absurd (f (rw e at (s .counts)) (sym (ap jobOf e) ∙ s .for))) (λ t. t) (which s)) h
+others : {seen : List (List ℕ)} {m : List ℕ} {job : ℕ} {held : List ℕ} → (Postable m → jobOf m ≡ job → ⊥) → HeldFor seen job held
+    → HeldFor (m ∷ seen) job held
+others f h =
+    holds-same (λ n s. more s) (λ n s. ⊎-elim (λ e. absurd (f (rw e at (s .postable)) (sym (ap jobOf e) ∙ s .for))) (λ t. t) (which s)) h
 
 -- one that is refused: it does not count, or there is no slot for its job
-pub keeps-refused : {seen held : List (List ℕ)} (m : List ℕ) → Keeps seen held → (Counts m → (length held ≡ SLOTS) × NoneOf (jobOf m) held) → Keeps (m ∷ seen) held
+pub keeps-refused : {seen held : List (List ℕ)} (m : List ℕ) → Keeps seen held
+    → (Postable m → (length held ≡ SLOTS) × NoneOf (jobOf m) held) → Keeps (m ∷ seen) held
 keeps-refused m k f = record {
   rising = k .rising;
-  holds = λ c i. others (λ counts e. f counts .1 c i (sym e)) (k .holds c i);
-  each = λ room n i counts. ⊎-elim (λ e. absurd (omega (arith, f (rw e at counts) .0))) (λ j. k .each room n j counts) (in-first i);
+  holds = λ c i. others (λ postable e. f postable .1 c i (sym e)) (k .holds c i);
+  each = λ room n i postable. ⊎-elim (λ e. absurd (omega (arith, f (rw e at postable) .0))) (λ j. k .each room n j postable) (in-first i);
 }
 
-pub keeps-more : {seen held : List (List ℕ)} (m : List ℕ) → Keeps seen held → AllBytes seen → AreBytes m → Counts m → length (placed held m) ≤ SLOTS → Keeps (m ∷ seen) (placed held m)
-keeps-more {seen} {held} m k all bytes counts fits = record {
-  rising = placed-rising (placing held m) bytes (outcome-held m (counts .formed)) (counts .named) (k .rising);
+pub keeps-more : {seen held : List (List ℕ)} (m : List ℕ) → Keeps seen held → AllBytes seen → AreBytes m → Postable m
+    → length (placed held m) ≤ SLOTS → Keeps (m ∷ seen) (placed held m)
+keeps-more {seen} {held} m k all bytes postable fits = record {
+  rising = placed-rising (placing held m) bytes (outcome-held m (postable .formed)) (postable .named) (k .rising);
   holds = λ c i. by c (comes (placing held m) (k .rising) i);
-  each = λ room n i counted. ⊎-elim (λ e. rw e (arrives (placing held m) bytes)) (λ j. lasts (k .each (omega (arith, no-fewer)) n j counted)) (in-first i);
+  each =
+      λ room n i counted. ⊎-elim (λ e. rw e (arrives (placing held m) bytes)) (λ j. lasts (k .each (omega (arith, no-fewer)) n j counted))
+      (in-first i);
 }
   where
     how : Grown (jobOf m) held (placed held m)
@@ -162,13 +180,15 @@ keeps-more {seen} {held} m k all bytes counts fits = record {
     lasts : {job : ℕ} → SomeOf job held → SomeOf job (placed held m)
     lasts s = let t = stays (placing held m) bytes (s .0) (s .1 .0) in (t .0, (t .1 .0, t .1 .1 ∙ s .1 .1))
 
-    by : (c : List ℕ) → Comes m held c → Holds (m ∷ seen) (jobOf c) c
-    by c (kept i f) = others (λ counts e. f (sym e)) (k .holds c i)
+    by : (c : List ℕ) → Comes m held c → HeldFor (m ∷ seen) (jobOf c) c
+    by c (kept i f) = others (λ postable e. f (sym e)) (k .holds c i)
     by c (first f e) =
         rw e
         (inl
         (record {
-          came = now all counts;
-          highest = λ n s. ⊎-elim inl (λ t. let was = k .each (room f) n (t .among) (t .counts) in absurd (f (was .0) (was .1 .0) (was .1 .1 ∙ t .for))) (which s);
+          came = now all postable;
+          highest =
+              λ n s. ⊎-elim inl (λ t. let was = k .each (room f) n (t .among) (t .postable) in
+              absurd (f (was .0) (was .1 .0) (was .1 .1 ∙ t .for))) (which s);
         }))
-    by c (met {d} i f e) = rw (e, joined-job (joining d m) bytes f) (holds-joined all counts (joining d m) (rw f at (k .holds d i)))
+    by c (met {d} i f e) = rw (e, joined-job (joining d m) bytes f) (holds-joined all postable (joining d m) (rw f at (k .holds d i)))

@@ -1,7 +1,11 @@
--- What `placed` makes of rising records and one more, by its tests (`placing`): the later lemmas go by these four cases. They still rise (`placed-rising`); where each of them comes from (`comes`), that no job is lost (`stays`, `arrives`), how many they are (`grown`), that placing it again changes nothing (`placed-again`), nor does placing one that changes nothing of what is held of its job (`placed-same`).
+-- What `placed` makes of rising records and one more, by its tests (`placing`): the later lemmas go by these four
+-- cases. They still rise (`placed-rising`); where each of them comes from (`comes`), that no job is lost (`stays`,
+-- `arrives`), how many they are (`grown`), that placing it again changes nothing (`placed-again`), nor does placing one
+-- that changes nothing of what is held of its job (`placed-same`).
 use mathlib.Core.Path.{_≡_, refl, sym, ap, _∙_}
 use mathlib.Core.Bool.{Bool, true, false, cond}
-use mathlib.Core.List.{List, [], _∷_, List·Memᴰ·head as here, List·Memᴰ·tail as there, List·Memᴰ·not-nil as in-none, List·Memᴰ·cases-cons as in-first}
+use mathlib.Core.List.{List, [], _∷_, List·Memᴰ·head as here, List·Memᴰ·tail as there, List·Memᴰ·not-nil as in-none}
+use mathlib.Core.List.{List·Memᴰ·cases-cons as in-first}
 use mathlib.Core.Logic.{_⊎_, inl, inr, ⊎-elim}
 use Prim.Native.Nat.{ℕ, suc, _<_}
 use native.Mathlib.Omega.{arith}
@@ -25,7 +29,8 @@ unfolding placed
 placing [] new = last
 placing (c ∷ cs) new = by (ltb (jobOf c) (jobOf new)) refl (eqb (jobOf c) (jobOf new)) refl (placing cs new)
   where
-    by : (low : Bool) → ltb (jobOf c) (jobOf new) ≡ low → (same : Bool) → eqb (jobOf c) (jobOf new) ≡ same → {ds : List (List ℕ)} → Placing new cs ds →
+    by : (low : Bool) → ltb (jobOf c) (jobOf new) ≡ low → (same : Bool) → eqb (jobOf c) (jobOf new) ≡ same → {ds : List (List ℕ)}
+        → Placing new cs ds →
         Placing new (c ∷ cs) (cond low (c ∷ ds) (cond same (joined c new ∷ cs) (new ∷ c ∷ cs)))
     by true e same f p = after (ltb-true (jobOf c) (jobOf new) e) p
     by false e true f p = meets (eqb-true (jobOf c) (jobOf new) f)
@@ -48,7 +53,8 @@ none-first f g d m e = ⊎-elim (λ s. f (sym (ap jobOf s) ∙ e)) (λ n. g d n 
 some-later : {job : ℕ} {c : List ℕ} {cs : List (List ℕ)} → SomeOf job cs → SomeOf job (c ∷ cs)
 some-later s = (s .0, (there (s .1 .0), s .1 .1))
 
-pub placed-rising : {new : List ℕ} {above : ℕ} {cs ds : List (List ℕ)} → Placing new cs ds → AreBytes new → isHeld new ≡ true → above < jobOf new → HeldRising above cs → HeldRising above ds
+pub placed-rising : {new : List ℕ} {above : ℕ} {cs ds : List (List ℕ)} → Placing new cs ds → AreBytes new → isHeld new ≡ true
+    → above < jobOf new → HeldRising above cs → HeldRising above ds
 placed-rising last bytes h l none = next l h none
 placed-rising (before k) bytes h l (next low held r) = next l h (next k held r)
 placed-rising {new} (meets {c} e) bytes h l (next low held r) =
@@ -63,13 +69,15 @@ pub data Comes (new : List ℕ) (cs : List (List ℕ)) (c : List ℕ) : Type 0 w
   first : NoneOf (jobOf new) cs → c ≡ new → Comes new cs c
   met : {d : List ℕ} → d ∈ cs → jobOf d ≡ jobOf new → c ≡ joined d new → Comes new cs c
 
-pub comes : {new : List ℕ} {above : ℕ} {cs ds : List (List ℕ)} {c : List ℕ} → Placing new cs ds → HeldRising above cs → c ∈ ds → Comes new cs c
+pub comes : {new : List ℕ} {above : ℕ} {cs ds : List (List ℕ)} {c : List ℕ} → Placing new cs ds → HeldRising above cs → c ∈ ds
+    → Comes new cs c
 comes last none m = ⊎-elim (first (λ d n e. in-none n)) (λ n. absurd (in-none n)) (in-first m)
 comes {c} (before k) (next low held r) m =
     let apart = none-below (next k held r) in
     ⊎-elim (first apart) (λ n. kept n (apart c n)) (in-first m)
 comes (meets e) (next low held r) m = ⊎-elim (met (here refl) e) (λ n. kept (there n) (λ g. omega (arith, above-all r n))) (in-first m)
-comes {new} {c} (after {c = x} {cs} k p) (next low held r) m = ⊎-elim (λ e. kept (here e) (λ g. omega (arith, ap jobOf e))) (λ n. later (comes p r n)) (in-first m)
+comes {new} {c} (after {c = x} {cs} k p) (next low held r) m =
+    ⊎-elim (λ e. kept (here e) (λ g. omega (arith, ap jobOf e))) (λ n. later (comes p r n)) (in-first m)
   where
     later : Comes new cs c → Comes new (x ∷ cs) c
     later (kept n f) = kept (there n) f
@@ -81,7 +89,9 @@ comes {new} {c} (after {c = x} {cs} k p) (next low held r) m = ⊎-elim (λ e. k
 pub stays : {new : List ℕ} {cs ds : List (List ℕ)} → Placing new cs ds → AreBytes new → (c : List ℕ) → c ∈ cs → SomeOf (jobOf c) ds
 stays last bytes c m = absurd (in-none m)
 stays (before k) bytes c m = (c, (there m, refl))
-stays {new} (meets {c = x} e) bytes c m = ⊎-elim (λ s. (joined x new, (here refl, joined-job (joining x new) bytes e ∙ sym e ∙ sym (ap jobOf s)))) (λ n. (c, (there n, refl))) (in-first m)
+stays {new} (meets {c = x} e) bytes c m =
+    ⊎-elim (λ s. (joined x new, (here refl, joined-job (joining x new) bytes e ∙ sym e ∙ sym (ap jobOf s)))) (λ n. (c, (there n, refl)))
+    (in-first m)
 stays (after k p) bytes c m = ⊎-elim (λ s. (c, (here s, refl))) (λ n. some-later (stays p bytes c n)) (in-first m)
 
 pub arrives : {new : List ℕ} {cs ds : List (List ℕ)} → Placing new cs ds → AreBytes new → SomeOf (jobOf new) ds
@@ -112,11 +122,15 @@ pub placed-again : {new : List ℕ} {cs ds : List (List ℕ)} → Placing new cs
 unfolding placed
 placed-again {new} last bytes = at-job new new [] refl ∙ rw (joined-self new)
 placed-again {new} (before {c} {cs} k) bytes = at-job new new (c ∷ cs) refl ∙ rw (joined-self new)
-placed-again {new} (meets {c} {cs} e) bytes = at-job (joined c new) new cs (joined-job (joining c new) bytes e) ∙ rw (joined-again c new bytes)
+placed-again {new} (meets {c} {cs} e) bytes =
+    at-job (joined c new) new cs (joined-job (joining c new) bytes e) ∙ rw (joined-again c new bytes)
 placed-again {new} (after {c} k p) bytes = rw (lt-ltb (jobOf c) (jobOf new) k) (ap (λ l. c ∷ l) (placed-again p bytes))
 
-pub placed-same : {new held : List ℕ} {above : ℕ} {cs ds : List (List ℕ)} → Placing new cs ds → HeldRising above cs → held ∈ cs → jobOf held ≡ jobOf new → joined held new ≡ held → ds ≡ cs
+pub placed-same : {new held : List ℕ} {above : ℕ} {cs ds : List (List ℕ)} → Placing new cs ds → HeldRising above cs → held ∈ cs
+    → jobOf held ≡ jobOf new → joined held new ≡ held → ds ≡ cs
 placed-same last r m e f = absurd (in-none m)
 placed-same (before k) (next low h r) m e f = absurd (omega (arith, above-all (next k h r) m))
-placed-same {new} (meets {c} {cs} g) (next low h r) m e f = ⊎-elim (λ s. ap (λ l. l ∷ cs) (ap (λ l. joined l new) (sym s) ∙ f ∙ s)) (λ n. absurd (omega (arith, above-all r n))) (in-first m)
-placed-same (after {c} k p) (next low h r) m e f = ⊎-elim (λ s. absurd (omega (arith, ap jobOf s))) (λ n. ap (λ l. c ∷ l) (placed-same p r n e f)) (in-first m)
+placed-same {new} (meets {c} {cs} g) (next low h r) m e f =
+    ⊎-elim (λ s. ap (λ l. l ∷ cs) (ap (λ l. joined l new) (sym s) ∙ f ∙ s)) (λ n. absurd (omega (arith, above-all r n))) (in-first m)
+placed-same (after {c} k p) (next low h r) m e f =
+    ⊎-elim (λ s. absurd (omega (arith, ap jobOf s))) (λ n. ap (λ l. c ∷ l) (placed-same p r n e f)) (in-first m)

@@ -38,22 +38,22 @@ AreBytes m = (i : ℕ) → getD m i 0 < 256
 abbrev pub AllBytes : List (List ℕ) → Type 0
 AllBytes ms = (m : List ℕ) → m ∈ ms → AreBytes m
 
--- a message that counts: not malformed, and of a job that is not 0
-pub record Counts (m : List ℕ) : Type 0 where
+-- a message that a board can take: not malformed, and of a job that is not 0
+pub record Postable (m : List ℕ) : Type 0 where
   pub formed : isOutcome m ≡ true
   pub named : 0 < jobOf m
 
 -- one that came for a job
 pub record CameFor (ms : List (List ℕ)) (job : ℕ) (m : List ℕ) : Type 0 where
   pub among : m ∈ ms
-  pub counts : Counts m
+  pub postable : Postable m
   pub for : jobOf m ≡ job
 
--- messages over at most 64 different jobs: a list of so many names the job of each that counts
+-- messages over at most 64 different jobs: a list of so many names the job of each postable one
 pub record OverFewJobs (ms : List (List ℕ)) : Type 0 where
   pub jobs : List ℕ
   pub few : length jobs ≤ SLOTS
-  pub each : (m : List ℕ) → m ∈ ms → Counts m → List·Memᴰ (jobOf m) jobs
+  pub each : (m : List ℕ) → m ∈ ms → Postable m → List·Memᴰ (jobOf m) jobs
 
 -- the one record of the highest revision that came for a job: every other is of a lower one
 pub record OneRecord (ms : List (List ℕ)) (job : ℕ) (held : List ℕ) : Type 0 where
@@ -78,12 +78,13 @@ pub record InConflict (ms : List (List ℕ)) (job : ℕ) (held : List ℕ) : Typ
   pub conflict : held ≡ conflictBytes job revision
 
 -- what a board holds of a job
-abbrev pub Holds : List (List ℕ) → ℕ → List ℕ → Type 0
-Holds ms job held = OneRecord ms job held ⊎ InConflict ms job held
+abbrev pub HeldFor : List (List ℕ) → ℕ → List ℕ → Type 0
+HeldFor ms job held = OneRecord ms job held ⊎ InConflict ms job held
 
--- a board after some messages: it is one (so its slots rise, one for a job), its bytes are those of what it holds, each slot holds what the messages for its job say, and each job of a message that counts has a slot
-pub record After (ms : List (List ℕ)) (b : List ℕ) : Type 0 where
+-- a board after some messages: it is one (so its slots rise, one for a job), its bytes are those of what it holds, each
+-- slot holds what the messages for its job say, and each job of a postable message has a slot
+pub record BoardAfter (ms : List (List ℕ)) (b : List ℕ) : Type 0 where
   pub well-formed : isBoard b ≡ true
   pub slots : b ≡ boardOf (heldOn b)
-  pub holds : (held : List ℕ) → held ∈ heldOn b → Holds ms (jobOf held) held
-  pub each-job : (m : List ℕ) → m ∈ ms → Counts m → SomeOf (jobOf m) (heldOn b)
+  pub holds : (held : List ℕ) → held ∈ heldOn b → HeldFor ms (jobOf held) held
+  pub each-job : (m : List ℕ) → m ∈ ms → Postable m → SomeOf (jobOf m) (heldOn b)
