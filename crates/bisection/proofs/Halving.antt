@@ -57,7 +57,7 @@ sum-twice a k =
     ap (λ (z : ℤ). a +ℤ z) (sym (+ℤ-assoc a (pos k) (pos k)) ∙ +ℤ-comm (a +ℤ pos k) (pos k))
     ∙ sym (+ℤ-assoc a (pos k) (a +ℤ pos k))
 
-up-same : (a : ℤ) (k : ℕ) → a +ℤ pos k ≡ a → k ≡ 0
+pub up-same : (a : ℤ) (k : ℕ) → a +ℤ pos k ≡ a → k ≡ 0
 up-same a k e =
     let f : pos k ≡ pos 0 = sym (+ℤ-idl (pos k)) ∙ ap (λ (z : ℤ). z +ℤ pos k) (sym (+ℤ-invl a)) ∙ +ℤ-assoc (negℤ a) a (pos k) ∙ ap (λ (z : ℤ). negℤ a +ℤ z) e ∙ +ℤ-invl a in
     cc
@@ -65,7 +65,7 @@ up-same a k e =
 pub up-less : (a : ℤ) (k : ℕ) → (a +ℤ pos k) -ℤ a ≡ pos k
 up-less a k = ap (λ (z : ℤ). z -ℤ a) (+ℤ-comm a (pos k)) ∙ +ℤ-negℤ-cancel (pos k) a
 
-same-no : (x y : ℤ) → (x ≡ y → ⊥) → same x y ≡ false
+pub same-no : (x y : ℤ) → (x ≡ y → ⊥) → same x y ≡ false
 same-no (pos x) (pos y) f = ne-eqb x y (λ e. f (ap pos e))
 same-no (negsuc x) (negsuc y) f = ne-eqb x y (λ e. f (ap negsuc e))
 same-no (pos x) (negsuc y) f = refl

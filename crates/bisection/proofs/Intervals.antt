@@ -1,4 +1,5 @@
--- What `bisect` asks of an interval and finds in it: the machine's numbers for the width and the middle are the definition's, each half is an interval again, and each way of the code is the definition's.
+-- What `bisect` asks of an interval and finds in it: the machine's numbers for the width and the middle are the definition's, each half is an interval again,
+-- and each way of the code is the definition's.
 use mathlib.Core.Path.{_≡_, refl, sym, ap, _∙_, subst}
 use mathlib.Core.Bool.{true, false, cond}
 use Prim.Native.Nat.{ℕ, zero, suc, _+_, _-_, _^_, _≤_, _<_}
@@ -11,25 +12,28 @@ use mir.Val.{SFits, toZ, ofZ}
 use mir.Facts.{toZ-ofZ}
 use Rattle.stations.specs.declared.side.Side.{Side}
 use Rattle.stations.specs.Sides.{opposite, isUnknown}
-use Rattle.bisection.specs.Halving.{bisectOf}
+use Rattle.bisection.specs.Halving.{withSide, bisectOf}
 use Rattle.bisection.specs.Interval.{Interval}
 use Rattle.stations.proofs.Places.{mag-add}
 use Rattle.bisection.proofs.Halving.{double, up-less, middle, top, up-twice, sum-is, middle-is, step, mag-twice}
+use Rattle.bisection.proofs.LowerSide.{at-lower, own-side, at-middle, upper-half}
 
 -- an interval by other names of its ends
-pub renamed : {σ : ℤ → Side} {low : Side} {a b x y : ℤ} {h : ℕ} → x ≡ a → y ≡ b → Interval σ low a b h → Interval σ low x y h
-renamed {σ} {low} {b = b} {x = x} {h = h} e f v = subst (λ (z : ℤ). Interval σ low x z h) (sym f) (subst (λ (z : ℤ). Interval σ low z b h) (sym e) v)
+pub renamed : {a b x y : ℤ} {h : ℕ} → x ≡ a → y ≡ b → Interval a b h → Interval x y h
+renamed {b = b} {x = x} {h = h} e f v =
+    let lower : Interval x b h = subst (λ (z : ℤ). Interval z b h) (sym e) v in
+    subst (λ (z : ℤ). Interval x z h) (sym f) lower
 
 -- 2^k is 1 at k = 0 alone
 one-at : (k : ℕ) → 2 ^ k ≡ 1 → k ≡ 0
 one-at zero e = refl
 one-at (suc k) e = omega (arith, double k, pow-pos k)
 
-module _ {σ : ℤ → Side} {low : Side} {a b : ℤ} {h : ℕ} (v : Interval σ low a b h) where
+module _ {a b : ℤ} {h : ℕ} (v : Interval a b h) where
   -- at width 1 no halving is left
-  pub at-one : 2 ^ (20 - h) ≡ 1 → record { lower = a; upper = b; halvings = h } ≡ bisectOf σ (20 - h) h a b
+  pub at-one : (σ : ℤ → Side) → 2 ^ (20 - h) ≡ 1 → record { lower = a; upper = b; halvings = h } ≡ bisectOf σ (20 - h) h a b
   unfolding bisectOf
-  at-one e = let z : 20 - h ≡ 0 = one-at (20 - h) e in rw z
+  at-one σ e = let z : 20 - h ≡ 0 = one-at (20 - h) e in rw z
 
   module _ (fa : SFits w64 a) (fb : SFits w64 b) where
     width-read : toZ w64 (ofZ w64 b) -ℤ toZ w64 (ofZ w64 a) ≡ pos (2 ^ (20 - h))
@@ -73,7 +77,7 @@ module _ {σ : ℤ → Side} {low : Side} {a b : ℤ} {h : ℕ} (v : Interval σ
       sum-fits = rw sum-read (record { sfits = omega (arith, mag-twice mid, mid-room) })
 
       -- the middle as the code works it out
-      abbrev halfway : ℤ
+      abbrev pub halfway : ℤ
       halfway = quotZ (toZ w64 (ofZ w64 (toZ w64 (ofZ w64 a) +ℤ toZ w64 (ofZ w64 b)))) (pos 2)
 
       halfway-is : halfway ≡ mid
@@ -87,23 +91,36 @@ module _ {σ : ℤ → Side} {low : Side} {a b : ℤ} {h : ℕ} (v : Interval σ
       pub mid-read : toZ w64 (ofZ w64 halfway) ≡ mid
       mid-read = toZ-ofZ halfway-fits ∙ halfway-is
 
-    pub lower-next : Interval σ low a mid (h + 1)
-    lower-next = record { side = v .side; upperIs = refl; most = omega (arith, left); room = omega (arith, v .room, whole) }
+    pub lower-next : Interval a mid (h + 1)
+    lower-next = record { upperIs = refl; most = omega (arith, left); room = omega (arith, v .room, whole) }
 
-    module _ {s : Side} (here : s ≡ σ mid) where
-      halves : bisectOf σ (20 - h) h a b
+    pub upper-next : Interval mid b (h + 1)
+    upper-next =
+        record {
+          upperIs = upper-is ∙ sym (up-twice a (20 - (h + 1)));
+          most = omega (arith, left);
+          room = mid-room;
+        }
+
+    -- the lower end counts as on the side `low`, and the middle is on the side s
+    module _ (σ : ℤ → Side) (low : Side) {s : Side} (here : s ≡ σ mid) where
+      halves : bisectOf (withSide σ a low) (20 - h) h a b
           ≡ cond (isUnknown s) (record { lower = a; upper = b; halvings = h })
-          (cond (opposite low s) (bisectOf σ (20 - (h + 1)) (h + 1) a mid) (bisectOf σ (20 - (h + 1)) (h + 1) mid b))
-      halves = rw (here, v .side, upper-is) (ap (λ (n : ℕ). bisectOf σ n h a (top a (20 - (h + 1)))) rest ∙ step a (20 - (h + 1)) σ h)
+          (cond (opposite low s) (bisectOf (withSide σ a low) (20 - (h + 1)) (h + 1) a mid)
+          (bisectOf (withSide σ mid s) (20 - (h + 1)) (h + 1) mid b))
+      halves =
+          let n : ℕ = 20 - (h + 1) in
+          let whole-step : bisectOf (withSide σ a low) (20 - h) h a (top a n) ≡ bisectOf (withSide σ a low) (suc n) h a (top a n) =
+          ap (λ (k : ℕ). bisectOf (withSide σ a low) k h a (top a n)) rest in
+          rw (upper-is, whole-step, step a n (withSide σ a low) h, here, own-side σ mid, upper-half σ a low n (h + 1), at-middle σ a low n h, at-lower σ a low)
 
-      pub at-void : isUnknown s ≡ true → record { lower = a; upper = b; halvings = h } ≡ bisectOf σ (20 - h) h a b
+      pub at-void : isUnknown s ≡ true → record { lower = a; upper = b; halvings = h } ≡ bisectOf (withSide σ a low) (20 - h) h a b
       at-void e = sym (halves ∙ rw e)
 
-      pub in-lower : isUnknown s ≡ false → opposite low s ≡ true → bisectOf σ (20 - (h + 1)) (h + 1) a mid ≡ bisectOf σ (20 - h) h a b
+      pub in-lower : isUnknown s ≡ false → opposite low s ≡ true →
+          bisectOf (withSide σ a low) (20 - (h + 1)) (h + 1) a mid ≡ bisectOf (withSide σ a low) (20 - h) h a b
       in-lower e o = sym (halves ∙ rw (e, o))
 
-      pub in-upper : isUnknown s ≡ false → opposite low s ≡ false → bisectOf σ (20 - (h + 1)) (h + 1) mid b ≡ bisectOf σ (20 - h) h a b
+      pub in-upper : isUnknown s ≡ false → opposite low s ≡ false →
+          bisectOf (withSide σ mid s) (20 - (h + 1)) (h + 1) mid b ≡ bisectOf (withSide σ a low) (20 - h) h a b
       in-upper e o = sym (halves ∙ rw (e, o))
-
-      pub upper-next : Interval σ s mid b (h + 1)
-      upper-next = record { side = here; upperIs = upper-is ∙ sym (up-twice a (20 - (h + 1))); most = omega (arith, left); room = mid-room }

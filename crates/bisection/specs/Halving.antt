@@ -31,3 +31,7 @@ bisectOf σ zero h a b = record { lower = a; upper = b; halvings = h }
 bisectOf σ (suc n) h a b =
     cond (stops σ a b) (record { lower = a; upper = b; halvings = h })
     (cond (opposite (σ a) (σ (middleOf a b))) (bisectOf σ n (h + 1) a (middleOf a b)) (bisectOf σ n (h + 1) (middleOf a b) b))
+
+-- the side of each place, with the side `low` at the place a whatever its time
+unfoldable pub withSide : (ℤ → Side) → ℤ → Side → ℤ → Side
+withSide σ a low k = cond (same k a) low (σ k)

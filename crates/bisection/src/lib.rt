@@ -4,9 +4,9 @@ ghost use mathlib.Core.Path.{_≡_};
 ghost use Prim.Native.Nat.{_-_};
 ghost use Rattle.stations.specs.Grid.{stations};
 ghost use Rattle.stations.specs.Sides.{sideAt};
-ghost use Rattle.bisection.specs.Halving.{bisectOf};
+ghost use Rattle.bisection.specs.Halving.{withSide, bisectOf};
 ghost use Rattle.bisection.specs.Interval.{Interval};
-ghost use Rattle.bisection.specs.Pairs.{bracketOf};
+ghost use Rattle.bisection.specs.Pairs.{bracketFrom};
 use flight_time::Place;
 use stations::Search;
 use stations::Side;
@@ -22,21 +22,21 @@ pub struct Bracket {
     pub halvings: u32,
 }
 
-// The bracket of the stations i and i + 1: where the halving of this pair stops. Its ends are on
-// opposite sides if the pair's are.
-pub fn bracket_of(search: Search, i: u16) -> Bracket
-    ensures { λ r. ⌜ r ≡ bracketOf (sideAt search) stations i ⌝ }
+// The bracket of the stations i and i + 1: where the halving of this pair stops. `low` is the side of
+// station i, which the caller has worked out. The bracket's ends are on opposite sides if the pair's
+// are.
+pub fn bracket_of(search: Search, low: Side, i: u16) -> Bracket
+    ensures { λ r. ⌜ r ≡ bracketFrom (sideAt search) low stations i ⌝ }
 {
     let a = station(i);
-    let low = side_at(search, a);
     bisect(search, low, a, a + Place::STATION_SPACING, 0)
 }
 
 // Halves the interval from a to b, whose lower end is on the side `low`, after h halvings. In an
 // interval wider than 1 the middle is neither end.
 fn bisect(search: Search, low: Side, a: i64, b: i64, h: u32) -> Bracket
-    requires { ⌜ Interval (sideAt search) low a b h ⌝ }
-    ensures { λ r. ⌜ r ≡ bisectOf (sideAt search) (20 - h) h a b ⌝ }
+    requires { ⌜ Interval a b h ⌝ }
+    ensures { λ r. ⌜ r ≡ bisectOf (withSide (sideAt search) a low) (20 - h) h a b ⌝ }
 {
     let here = Bracket {
         lower: a,

@@ -1,4 +1,4 @@
--- The invariant of the walk over the stations: how it begins, what a turn makes of it, and what it says where the walk ends.
+-- The invariant of the walk over the places of a grid, `Passed`: how it begins, what a turn makes of it, and what it says where the walk ends.
 use mathlib.Core.Path.{_≡_, refl, sym, ap, _∙_, subst}
 use mathlib.Core.Bool.{Bool, true, false, cond, _||_}
 use mathlib.Core.List.{List, [], _∷_, _++_, append-nil}
@@ -13,16 +13,17 @@ use Rattle.stations.specs.declared.side.Side.{Side}
 use Rattle.stations.specs.declared.side.Side.the-variants.{Unknown}
 use Rattle.stations.specs.Sides.{opposite, isUnknown}
 use Rattle.stations.specs.Grid.{Grid}
-use Rattle.bisection.specs.Pairs.{crosses, bracketOf}
+use Rattle.bisection.specs.Pairs.{crosses, bracketOf, bracketFrom}
+use Rattle.bisection.proofs.LowerSide.{own-bracket}
 use Rattle.sweep.specs.Crossings.{upTo, keep, some, crossings, someVoid, brackets, blank, eight, walkOf, sweepOf}
 use Rattle.sweep.proofs.Lists.{some-next, eight-set, brackets-next, all-passed, left-at}
 
--- the side of the station before station i; before the first there is none
+-- the side of the place before place i; before the first there is none
 unfoldable pub before : (ℤ → Side) → Grid → ℕ → Side
 before σ g zero = Unknown
 before σ g (suc i) = σ (g .place i)
 
--- the stations below i are passed: the brackets of their pairs are listed, and no ninth was among them
+-- the places below i are passed: the brackets of their pairs are listed, and no ninth was among them
 pub record Passed (σ : ℤ → Side) (g : Grid) (last : ℕ) (list : List Bracket) (count : ℕ) (void : Bool) (low : Side) (i : ℕ) : Type 0 where
   pub within : i ≤ last + 1
   pub here : low ≡ before σ g i
@@ -31,54 +32,83 @@ pub record Passed (σ : ℤ → Side) (g : Grid) (last : ℕ) (list : List Brack
   pub most : count ≤ 8
   pub voided : void ≡ some (λ j. isUnknown (σ (g .place j))) (upTo i)
 
-pub starts : (σ : ℤ → Side) (g : Grid) (last : ℕ) → Passed σ g last (blank ∷ blank ∷ blank ∷ blank ∷ blank ∷ blank ∷ blank ∷ blank ∷ []) 0 false Unknown 0
+pub starts : (σ : ℤ → Side) (g : Grid) (last : ℕ) →
+    Passed σ g last (blank ∷ blank ∷ blank ∷ blank ∷ blank ∷ blank ∷ blank ∷ blank ∷ []) 0 false Unknown 0
 unfolding before brackets crossings keep some upTo
 starts σ g last = record { within = omega arith; here = refl; found = refl; counted = refl; most = omega arith; voided = refl }
 
--- what the pair below station i adds to the brackets
-added : (σ : ℤ → Side) (g : Grid) (i : ℕ) → brackets σ g i ≡ brackets σ g (i - 1) ++ cond (opposite (before σ g i) (σ (g .place i))) (bracketOf σ g (i - 1) ∷ []) []
+-- what the pair below place i adds to the brackets: its own, if the place before i and place i are on opposite sides
+abbrev addition : (ℤ → Side) → Grid → ℕ → Side → Side → List Bracket
+addition σ g i low high = cond (opposite low high) (bracketOf σ g i ∷ []) []
+
+added : (σ : ℤ → Side) (g : Grid) (i : ℕ) →
+    brackets σ g i ≡ brackets σ g (i - 1) ++ addition σ g (i - 1) (before σ g i) (σ (g .place i))
 unfolding before brackets crossings keep upTo crosses
 added σ g zero = refl
 added σ g (suc j) =
     let e : suc j - 1 ≡ j = omega arith in
     rw e
-    (subst (λ (k : ℕ). brackets σ g k ≡ brackets σ g j ++ cond (opposite (σ (g .place j)) (σ (g .place k))) (bracketOf σ g j ∷ []) []) (add-one j) (brackets-next σ g j))
+    (subst (λ (k : ℕ). brackets σ g k ≡ brackets σ g j ++ addition σ g j (σ (g .place j)) (σ (g .place k))) (add-one j)
+    (brackets-next σ g j))
 
--- there is a pair below station i, and it crosses
-pair-at : (σ : ℤ → Side) (g : Grid) (i : ℕ) → opposite (before σ g i) (σ (g .place i)) ≡ true → (1 ≤ i) × (crosses σ g (i - 1) ≡ true)
+-- there is a pair below place i, it crosses, and the side before place i is that of its lower place
+pub record Pair (σ : ℤ → Side) (g : Grid) (i : ℕ) : Type 0 where
+  pub positive : 1 ≤ i
+  pub crossing : crosses σ g (i - 1) ≡ true
+  pub lower : before σ g i ≡ σ (g .place (i - 1))
+
+pair-at : (σ : ℤ → Side) (g : Grid) (i : ℕ) → opposite (before σ g i) (σ (g .place i)) ≡ true → Pair σ g i
 unfolding before crosses
 pair-at σ g zero e = absurd (let z : _≡_ {A = ℕ} 0 1 = cc e in omega (arith, z))
-pair-at σ g (suc j) e = let k : suc j - 1 ≡ j = omega arith in (omega arith, rw (k, add-one j) e)
+pair-at σ g (suc j) e =
+    let k : suc j - 1 ≡ j = omega arith in
+    record { positive = omega arith; crossing = rw (k, add-one j) e; lower = ap (λ (n : ℕ). σ (g .place n)) (sym k) }
 
-module _ {σ : ℤ → Side} {g : Grid} {last : ℕ} {list : List Bracket} {count : ℕ} {void : Bool} {low : Side} {i : ℕ} (v : Passed σ g last list count void low i) where
-  -- every station is passed
-  pub done : {ninth : Bool} → ninth ≡ false → last < i → record { list = list; count = count; walk = walkOf ninth void } ≡ sweepOf σ g last
+module _ {σ : ℤ → Side} {g : Grid} {last : ℕ} {list : List Bracket} {count : ℕ} {void : Bool} {low : Side} {i : ℕ}
+    (v : Passed σ g last list count void low i) where
+  -- every place is passed
+  pub done : {ninth : Bool} → ninth ≡ false → last < i →
+      record { list = list; count = count; walk = walkOf ninth void } ≡ sweepOf σ g last
   unfolding someVoid
   done n h =
       let e : i - 1 ≡ last = omega (arith, v .within) in
       let f : i ≡ last + 1 = omega (arith, v .within) in
-      rw (v .found, v .counted, v .voided, n, e, f) (all-passed σ g last (subst (λ (k : ℕ). length (brackets σ g k) ≤ 8) e (omega (arith, v .counted, v .most))))
+      let few : length (brackets σ g (i - 1)) ≤ 8 = omega (arith, v .counted, v .most) in
+      rw (v .found, v .counted, v .voided, n, e, f)
+      (all-passed σ g last (subst (λ (k : ℕ). length (brackets σ g k) ≤ 8) e few))
 
   module _ {high : Side} (h : high ≡ σ (g .place i)) where
-    -- the pair below station i crosses
-    pub pair : opposite low high ≡ true → (1 ≤ i) × (crosses σ g (i - 1) ≡ true)
+    -- the pair below place i crosses
+    pub pair : opposite low high ≡ true → Pair σ g i
     pair o = pair-at σ g i (rw (v .here, h) at o)
 
-    pub too-many : {ninth : Bool} → ninth ≡ true → i ≤ last → count ≡ 8 → opposite low high ≡ true → record { list = list; count = count; walk = walkOf ninth void } ≡ sweepOf σ g last
-    too-many n l e o = rw (v .found, n, e) (left-at σ g (i - 1) last void (omega (arith, pair o .0)) (sym (v .counted) ∙ e) (pair o .1))
+    -- the bracket that is worked out from the side of the lower place is the pair's
+    bracket-is : {b : Bracket} → opposite low high ≡ true → b ≡ bracketFrom σ low g (i - 1) → b ≡ bracketOf σ g (i - 1)
+    bracket-is o e =
+        let lower : low ≡ σ (g .place (i - 1)) = v .here ∙ pair o .lower in
+        e ∙ ap (λ (s : Side). bracketFrom σ s g (i - 1)) lower ∙ own-bracket σ g (i - 1)
+
+    pub too-many : {ninth : Bool} → ninth ≡ true → i ≤ last → count ≡ 8 → opposite low high ≡ true →
+        record { list = list; count = count; walk = walkOf ninth void } ≡ sweepOf σ g last
+    too-many n l e o =
+        let p = pair o in
+        let full : length (brackets σ g (i - 1)) ≡ 8 = sym (v .counted) ∙ e in
+        rw (v .found, n, e) (left-at σ g (i - 1) last void (omega (arith, p .positive)) full (p .crossing))
 
     module _ {unknown : Bool} (u : unknown ≡ isUnknown high) (l : i ≤ last) where
-      -- the invariant past station i, with what the pair below it added
-      next : (list' : List Bracket) (count' : ℕ) → list' ≡ eight (brackets σ g i) → count' ≡ length (brackets σ g i) → count' ≤ 8 → Passed σ g last list' count' (void || unknown) high (i + 1)
+      -- the invariant past place i, with what the pair below it added
+      next : (list' : List Bracket) (count' : ℕ) →
+          list' ≡ eight (brackets σ g i) → count' ≡ length (brackets σ g i) → count' ≤ 8 →
+          Passed σ g last list' count' (void || unknown) high (i + 1)
       unfolding before
-      next list' count' f n m =
+      next list' count' listed counted most =
           let e : i + 1 - 1 ≡ i = omega arith in
           record {
             within = omega (arith, l);
             here = h ∙ ap (before σ g) (sym (add-one i));
-            found = rw e f;
-            counted = rw e n;
-            most = m;
+            found = rw e listed;
+            counted = rw e counted;
+            most = most;
             voided = rw (v .voided, u, h) (sym (some-next (λ j. isUnknown (σ (g .place j))) i));
           }
 
@@ -87,11 +117,14 @@ module _ {σ : ℤ → Side} {g : Grid} {last : ℕ} {list : List Bracket} {coun
           let none : brackets σ g i ≡ brackets σ g (i - 1) = added σ g i ∙ rw (← v .here, ← h, o, append-nil) in
           next list count (rw none (v .found)) (rw none (v .counted)) (v .most)
 
-      pub listed : {b : Bracket} → opposite low high ≡ true → (count ≡ 8 → ⊥) → b ≡ bracketOf σ g (i - 1) → Passed σ g last (set list count b) (count + 1) (void || unknown) high (i + 1)
+      pub listed : {b : Bracket} → opposite low high ≡ true → (count ≡ 8 → ⊥) → b ≡ bracketFrom σ low g (i - 1) →
+          Passed σ g last (set list count b) (count + 1) (void || unknown) high (i + 1)
       listed {b} o f e =
+          let earlier = brackets σ g (i - 1) in
           let room : count < 8 = lt-of-le-ne (v .most) f in
-          let one : brackets σ g i ≡ brackets σ g (i - 1) ++ (b ∷ []) = added σ g i ∙ rw (← v .here, ← h, o, e) in
+          let few : length earlier < 8 = omega (arith, v .counted, room) in
+          let one : brackets σ g i ≡ earlier ++ (b ∷ []) = added σ g i ∙ rw (← v .here, ← h, o, bracket-is o e) in
           next (set list count b) (count + 1)
-          (rw (one, v .found, v .counted) (eight-set (brackets σ g (i - 1)) b (omega (arith, v .counted, room))))
-          (rw one (ap (λ (k : ℕ). k + 1) (v .counted) ∙ sym (length-append (brackets σ g (i - 1)) (b ∷ []))))
+          (rw (one, v .found, v .counted) (eight-set earlier b few))
+          (rw one (ap (λ (k : ℕ). k + 1) (v .counted) ∙ sym (length-append earlier (b ∷ []))))
           (omega (arith, room))

@@ -49,7 +49,7 @@ pub fn find_crossings(search: Search) -> Crossings
             if count == 8 {
                 break 'stations;
             }
-            list[count] = bracket_of(search, i - 1);
+            list[count] = bracket_of(search, low, i - 1);
             count += 1;
         }
         void = void | is_unknown(high);

@@ -2,9 +2,12 @@
 use Prim.Native.Nat.{ℕ, _+_, _-_, _^_, _<_}
 use mathlib.Core.Path.{_≡_, sym, ap, _∙_, subst}
 use native.Mathlib.Omega.{arith}
+use mir.Syntax.{w64}
+use mir.Val.{toZ, ofZ}
 use mir.Facts.{toZ-ofZ}
 use Rattle.stations.specs.Sides.{sideAt}
-use Rattle.bisection.proofs.Intervals.{renamed, at-one, width-fits, width-bits, left, mid, sum-fits, halfway-fits, mid-read, lower-next, upper-next, at-void, in-lower, in-upper}
+use Rattle.bisection.proofs.Intervals.{renamed, at-one, width-fits, width-bits, left, mid, sum-fits, halfway, halfway-fits, mid-read}
+use Rattle.bisection.proofs.Intervals.{lower-next, upper-next, at-void, in-lower, in-upper}
 use borrow.Fn.Kinds.{In}
 use borrow.Fn.PlainCycle.{Measures, is, falls, and}
 use Rattle.bisection.proofs.bisect.Reads as bisect
@@ -41,35 +44,53 @@ calls t = (
 module _ (t : ℕ) where
   -- past the first test the width is not 1
   more : (c : bisect-lts.Else1 (calls t) (bisect-at t) bisect.Post) → 2 ^ (20 - c .before .args .h) ≡ 1 → ⊥
-  more c e = c .if1 .left (width-bits (c .before .pre .1) (c .before .fits .a) (c .before .fits .b) ∙ e)
+  more c e =
+      let start = c .before in
+      c .if1 .left (width-bits (start .pre .1) (start .fits .a) (start .fits .b) ∙ e)
 
   -- fewer halvings are left
   fewer : (c : bisect-lts.Else1 (calls t) (bisect-at t) bisect.Post) → 20 - (c .before .args .h + 1) < t
-  fewer c = subst (λ (j : ℕ). 20 - (c .before .args .h + 1) < j) (c .before .pre .0) (omega (arith, left (c .before .pre .1) (more c)))
+  fewer c =
+      let start = c .before in
+      let below = left (start .pre .1) (more c) in
+      subst (λ (j : ℕ). 20 - (start .args .h + 1) < j) (start .pre .0) (omega (arith, below))
+
+  -- the machine's middle is the middle
+  middle-read : (c : bisect-lts.Else1 (calls t) (bisect-at t) bisect.Post) →
+      let start = c .before in
+      toZ w64 (ofZ w64 (halfway (start .pre .1) (more c) (start .fits .a) (start .fits .b))) ≡ mid (start .pre .1) (more c)
+  middle-read c =
+      let start = c .before in
+      mid-read (start .pre .1) (more c) (start .fits .a) (start .fits .b)
 
   -- the side that was found is that of the middle
   here : (c : bisect-lts.After-side-at (calls t) (bisect-at t) bisect.Post) →
-      c .side-at .result
-      ≡ sideAt (c .before .before .args .search) (mid (c .before .before .pre .1) (more (c .before)))
+      let wider = c .before in
+      let start = wider .before in
+      c .side-at .result ≡ sideAt (start .args .search) (mid (start .pre .1) (more wider))
   here c =
-      let k = c .before in
-      let a = k .before .args in
-      c .side-at .ensures
-      ∙ ap (sideAt (a .search)) (mid-read (k .before .pre .1) (more k) (k .before .fits .a) (k .before .fits .b))
+      let wider = c .before in
+      let start = wider .before in
+      c .side-at .ensures ∙ ap (sideAt (start .args .search)) (middle-read wider)
 
   sub-if1 : bisect-lts.Need-sub-if1 (calls t) (bisect-at t) bisect.Post
   sub-if1 c = width-fits (c .pre .1) (c .fits .a) (c .fits .b)
 
   returns : bisect-lts.Need-returns (calls t) (bisect-at t) bisect.Post
   returns c =
-      let k = c .before in
-      rw (toZ-ofZ (k .fits .a), toZ-ofZ (k .fits .b)) (at-one (k .pre .1) (sym (width-bits (k .pre .1) (k .fits .a) (k .fits .b)) ∙ c .if1 .taken))
+      let start = c .before in
+      let one = sym (width-bits (start .pre .1) (start .fits .a) (start .fits .b)) ∙ c .if1 .taken in
+      rw (toZ-ofZ (start .fits .a), toZ-ofZ (start .fits .b)) (at-one (start .pre .1) _ one)
 
   add-middle : bisect-lts.Need-add-middle (calls t) (bisect-at t) bisect.Post
-  add-middle c = sum-fits (c .before .pre .1) (more c) (c .before .fits .a) (c .before .fits .b)
+  add-middle c =
+      let start = c .before in
+      sum-fits (start .pre .1) (more c) (start .fits .a) (start .fits .b)
 
   div-middle : bisect-lts.Need-div-middle (calls t) (bisect-at t) bisect.Post
-  div-middle c = (omega arith, halfway-fits (c .before .pre .1) (more c) (c .before .fits .a) (c .before .fits .b))
+  div-middle c =
+      let start = c .before in
+      (omega arith, halfway-fits (start .pre .1) (more c) (start .fits .a) (start .fits .b))
 
   side-at-requires : bisect-lts.Need-side-at-requires (calls t) (bisect-at t) bisect.Post
   side-at-requires c κs = tt
@@ -79,54 +100,65 @@ module _ (t : ℕ) where
 
   returns-2 : bisect-lts.Need-returns-2 (calls t) (bisect-at t) bisect.Post
   returns-2 c =
-      let s = c .before .before in
-      let k = s .before in
-      rw (toZ-ofZ (k .before .fits .a), toZ-ofZ (k .before .fits .b))
-      (at-void (k .before .pre .1) (more k) (here s) (sym (c .before .is-unknown .ensures) ∙ c .if2 .taken))
+      let asked = c .before in
+      let sided = asked .before in
+      let wider = sided .before in
+      let start = wider .before in
+      let void = sym (asked .is-unknown .ensures) ∙ c .if2 .taken in
+      rw (toZ-ofZ (start .fits .a), toZ-ofZ (start .fits .b)) (at-void (start .pre .1) (more wider) _ _ (here sided) void)
 
   are-opposite-requires : bisect-lts.Need-are-opposite-requires (calls t) (bisect-at t) bisect.Post
   are-opposite-requires c κs = tt
 
   add-bisect : bisect-lts.Need-add-bisect (calls t) (bisect-at t) bisect.Post
-  add-bisect c = omega (arith, c .before .before .before .before .before .before .pre .1 .most)
+  add-bisect c =
+      let wider = c .before .before .before .before .before in
+      omega (arith, wider .before .pre .1 .most)
 
   bisect-requires : bisect-lts.Need-bisect-requires (calls t) (bisect-at t) bisect.Post
   bisect-requires c κs =
-      let k = c .before .before .before .before .before in
-      let v = k .before .pre .1 in (
-        fewer k,
-        renamed (toZ-ofZ (k .before .fits .a)) (mid-read v (more k) (k .before .fits .a) (k .before .fits .b)) (lower-next v (more k)),
-      )
+      let wider = c .before .before .before .before .before in
+      let start = wider .before in
+      let lower = lower-next (start .pre .1) (more wider) in
+      (fewer wider, renamed (toZ-ofZ (start .fits .a)) (middle-read wider) lower)
 
   add-bisect-2 : bisect-lts.Need-add-bisect-2 (calls t) (bisect-at t) bisect.Post
-  add-bisect-2 c = omega (arith, c .before .before .before .before .before .before .pre .1 .most)
+  add-bisect-2 c =
+      let wider = c .before .before .before .before .before in
+      omega (arith, wider .before .pre .1 .most)
 
   bisect-requires-2 : bisect-lts.Need-bisect-requires-2 (calls t) (bisect-at t) bisect.Post
   bisect-requires-2 c κs =
-      let s = c .before .before .before .before in
-      let k = s .before in
-      let v = k .before .pre .1 in (
-        fewer k,
-        renamed (mid-read v (more k) (k .before .fits .a) (k .before .fits .b)) (toZ-ofZ (k .before .fits .b)) (upper-next v (more k) (here s)),
-      )
+      let wider = c .before .before .before .before .before in
+      let start = wider .before in
+      let upper = upper-next (start .pre .1) (more wider) in
+      (fewer wider, renamed (middle-read wider) (toZ-ofZ (start .fits .b)) upper)
 
   returns-3 : bisect-lts.Need-returns-3 (calls t) (bisect-at t) bisect.Post
   returns-3 c =
-      let o = c .before .before in
-      let s = o .before .before .before in
-      let k = s .before in
-      let v = k .before .pre .1 in
-      rw (c .bisect .ensures, mid-read v (more k) (k .before .fits .a) (k .before .fits .b), toZ-ofZ (k .before .fits .a))
-      (in-lower v (more k) (here s) (sym (o .before .before .is-unknown .ensures) ∙ o .before .if2 .left) (sym (o .are-opposite .ensures) ∙ c .before .if3 .taken))
+      let compared = c .before .before in
+      let timed = compared .before in
+      let asked = timed .before in
+      let sided = asked .before in
+      let wider = sided .before in
+      let start = wider .before in
+      let known = sym (asked .is-unknown .ensures) ∙ timed .if2 .left in
+      let apart = sym (compared .are-opposite .ensures) ∙ c .before .if3 .taken in
+      rw (c .bisect .ensures, middle-read wider, toZ-ofZ (start .fits .a))
+      (in-lower (start .pre .1) (more wider) _ _ (here sided) known apart)
 
   returns-4 : bisect-lts.Need-returns-4 (calls t) (bisect-at t) bisect.Post
   returns-4 c =
-      let o = c .before .before in
-      let s = o .before .before .before in
-      let k = s .before in
-      let v = k .before .pre .1 in
-      rw (c .bisect2 .ensures, mid-read v (more k) (k .before .fits .a) (k .before .fits .b), toZ-ofZ (k .before .fits .b))
-      (in-upper v (more k) (here s) (sym (o .before .before .is-unknown .ensures) ∙ o .before .if2 .left) (sym (o .are-opposite .ensures) ∙ c .before .if3 .left))
+      let compared = c .before .before in
+      let timed = compared .before in
+      let asked = timed .before in
+      let sided = asked .before in
+      let wider = sided .before in
+      let start = wider .before in
+      let known = sym (asked .is-unknown .ensures) ∙ timed .if2 .left in
+      let alike = sym (compared .are-opposite .ensures) ∙ c .before .if3 .left in
+      rw (c .bisect2 .ensures, middle-read wider, toZ-ofZ (start .fits .b))
+      (in-upper (start .pre .1) (more wider) _ _ (here sided) known alike)
 
 pub +bisect-spec : {M : Type 1} → statement M
 +bisect-spec = close μ-bisect λ t. bisect-lts.spec (calls t)

@@ -1,4 +1,5 @@
--- `find_crossings` meets its contract: the invariant is `Passed`, all that is to be said of the stations below i; the measure is the number of stations that are left.
+-- `find_crossings` meets its contract: the invariant is `Passed`, all that is to be said of the stations below i; the measure is the number of stations that
+-- are left.
 use mathlib.Core.Path.{sym, _∙_}
 use mathlib.Core.Logic.{⊎-elim}
 use Prim.Native.Nat.{_+_, _-_, _≤_}
@@ -27,7 +28,11 @@ stations-holds c = starts _ _ _
 
 -- in a turn i is at most the last station, and so small
 small : (c : tie.In-stations Inv-stations μ-stations) → c .before .stations .i ≤ 20479
-small c = omega (arith, c .stations-test .taken, c .before .before .last-station .ensures, last-most (c .before .before .before .args .search .revolutions))
+small c =
+    let looped = c .before in
+    let start = looped .before in
+    let search = start .before .args .search in
+    omega (arith, c .stations-test .taken, start .last-station .ensures, last-most (search .revolutions))
 
 side-of-station-requires : tie.Need-side-of-station-requires Inv-stations μ-stations
 side-of-station-requires c κs = tt
@@ -37,39 +42,61 @@ are-opposite-requires c κs = tt
 
 sub-bracket-of : tie.Need-sub-bracket-of Inv-stations μ-stations
 sub-bracket-of c =
-    let o = c .before .before in
-    omega (arith, pair (o .before .before .before .stations .inv) (o .before .side-of-station .ensures) (sym (o .are-opposite .ensures) ∙ c .before .if1 .taken) .0)
+    let crossed = c .before in
+    let compared = crossed .before in
+    let sided = compared .before in
+    let looped = sided .before .before in
+    let apart = sym (compared .are-opposite .ensures) ∙ crossed .if1 .taken in
+    omega (arith, pair (looped .stations .inv) (sided .side-of-station .ensures) apart .positive)
 
 bracket-of-requires : tie.Need-bracket-of-requires Inv-stations μ-stations
 bracket-of-requires c κs = tt
 
 mul-list : tie.Need-mul-list Inv-stations μ-stations
-mul-list c = omega (arith, c .before .before .before .before .before .before .stations .inv .most)
+mul-list c =
+    let sided = c .before .before .before .before in
+    let looped = sided .before .before in
+    omega (arith, looped .stations .inv .most)
 
 array-set-from-list : tie.Need-array-set-from-list Inv-stations μ-stations
-array-set-from-list c = lt-of-le-ne (c .before .before .before .before .before .before .stations .inv .most) (c .before .if2 .left)
+array-set-from-list c =
+    let few = c .before in
+    let sided = few .before .before .before in
+    let looped = sided .before .before in
+    lt-of-le-ne (looped .stations .inv .most) (few .if2 .left)
 
 add-count : tie.Need-add-count Inv-stations μ-stations
-add-count c = omega (arith, c .before .before .before .before .before .before .stations .inv .most)
+add-count c =
+    let sided = c .before .before .before .before in
+    let looped = sided .before .before in
+    omega (arith, looped .stations .inv .most)
 
 is-unknown-requires : tie.Need-is-unknown-requires Inv-stations μ-stations
 is-unknown-requires c κs = tt
 
 add-i : tie.Need-add-i Inv-stations μ-stations
-add-i c = omega (arith, small (c .before .before .before .before))
+add-i c =
+    let sided = c .before .before .before in
+    omega (arith, small (sided .before))
 
 stations-less : tie.Need-stations-less Inv-stations μ-stations
-stations-less c = omega (arith, c .before .before .before .before .stations-test .taken)
+stations-less c =
+    let sided = c .before .before .before in
+    omega (arith, sided .before .stations-test .taken)
 
 stations-again : tie.Need-stations-again Inv-stations μ-stations
 stations-again c =
-    let o = c .before .before in
-    let s = o .before in
-    let v = s .before .before .stations .inv in
-    let l = s .before .stations-test .taken in
+    let compared = c .before .before in
+    let sided = compared .before in
+    let turn = sided .before in
+    let inv = turn .before .stations .inv in
+    let within = turn .stations-test .taken in
+    let high = sided .side-of-station .ensures in
+    let void = c .is-unknown .ensures in
+    let test = sym (compared .are-opposite .ensures) in
     ⊎-elim
-    (λ w. rw (w .3, w .4) (listed v (s .side-of-station .ensures) (c .is-unknown .ensures) l (sym (o .are-opposite .ensures) ∙ w .0 .taken) (w .1 .left) (w .2 .ensures)))
-    (λ w. rw (w .1, w .2) (passed v (s .side-of-station .ensures) (c .is-unknown .ensures) l (sym (o .are-opposite .ensures) ∙ w .0 .left)))
+    (λ w. rw (w .3, w .4) (listed inv high void within (test ∙ w .0 .taken) (w .1 .left) (w .2 .ensures)))
+    (λ w. rw (w .1, w .2) (passed inv high void within (test ∙ w .0 .left)))
     (c .before .if1 .came)
 
 walk-of-requires : tie.Need-walk-of-requires Inv-stations μ-stations
@@ -78,12 +105,15 @@ walk-of-requires c κs = tt
 returns : tie.Need-returns Inv-stations μ-stations
 unfolding gridFor lastFor
 returns c =
-    let k = c .before .before in
-    rw (c .walk-of .ensures, ← k .before .last-station .ensures)
+    let ended = c .before in
+    let looped = ended .before in
+    let start = looped .before in
+    let inv = looped .stations .inv in
+    rw (c .walk-of .ensures, ← start .last-station .ensures)
     (⊎-elim
-    (λ w. done (k .stations .inv) (lt-leb _ _ (w .left)) (w .left))
-    (λ w. too-many (k .stations .inv) (w .1 .ensures) (le-leb _ _ (w .0 .taken)) (w .0 .taken) (w .4 .taken) (sym (w .2 .ensures) ∙ w .3 .taken))
-    (c .before .stations-test .came))
+    (λ w. done inv (lt-leb _ _ (w .left)) (w .left))
+    (λ w. too-many inv (w .1 .ensures) (le-leb _ _ (w .0 .taken)) (w .0 .taken) (w .4 .taken) (sym (w .2 .ensures) ∙ w .3 .taken))
+    (ended .stations-test .came))
 
 pub find-crossings-spec : {M : Type 1} → statement M
 find-crossings-spec =
