@@ -12,6 +12,7 @@ use mir.Val.{SFits, toZ, ofZ}
 use mir.Facts.{toZ-ofZ}
 use Rattle.stations.specs.declared.side.Side.{Side}
 use Rattle.stations.specs.Sides.{opposite, isUnknown}
+use Rattle.stations.specs.Stations.{farthest}
 use Rattle.bisection.specs.Halving.{withSide, bisectOf}
 use Rattle.bisection.specs.Interval.{Interval}
 use Rattle.stations.proofs.Places.{mag-add}
@@ -66,7 +67,7 @@ module _ {a b : ℤ} {h : ℕ} (v : Interval a b h) where
     whole : 2 ^ (20 - h) ≡ 2 ^ (20 - (h + 1)) + 2 ^ (20 - (h + 1))
     whole = ap (λ (j : ℕ). 2 ^ j) rest ∙ double (20 - (h + 1))
 
-    mid-room : mag mid + 2 ^ (20 - (h + 1)) ≤ 2 ^ 40
+    mid-room : mag mid + 2 ^ (20 - (h + 1)) ≤ farthest
     mid-room = omega (arith, mag-add a (2 ^ (20 - (h + 1))), v .room, whole)
 
     module _ (fa : SFits w64 a) (fb : SFits w64 b) where

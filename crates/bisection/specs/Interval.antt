@@ -3,8 +3,9 @@ use mathlib.Core.Path.{_≡_}
 use Prim.Native.Nat.{ℕ, _+_, _-_, _^_, _≤_}
 use lib.IntN.{ℤ, pos, _+ℤ_}
 use lib.Signed.{mag}
+use Rattle.stations.specs.Stations.{farthest}
 
 pub record Interval (a b : ℤ) (h : ℕ) : Type 0 where
   pub upperIs : b ≡ a +ℤ pos (2 ^ (20 - h))
   pub most : h ≤ 20
-  pub room : mag a + 2 ^ (20 - h) ≤ 2 ^ 40
+  pub room : mag a + 2 ^ (20 - h) ≤ farthest

@@ -11,7 +11,7 @@ use lib.Signed.{mag}
 use mir.Syntax.{w64}
 use mir.Val.{SFits, toZ, ofZ}
 use mir.Facts.{toZ-ofZ}
-use Rattle.stations.specs.Stations.{stationOf, lastOf}
+use Rattle.stations.specs.Stations.{stationSpacing, stationsBelow, lastJ, stationOf, lastOf, farthest}
 
 mag-cond : (c : Bool) (x y : ℤ) (n : ℕ) → (T c → mag x ≤ n) → (T (not c) → mag y ≤ n) → mag (cond c x y) ≤ n
 mag-cond true x y n f g = f tt
@@ -37,31 +37,39 @@ pub mag-times : (z : ℤ) (n : ℕ) → mag (z *ℤ pos n) ≤ (mag z + 1) * n
 mag-times (pos a) n = omega arith
 mag-times (negsuc a) n = omega (arith, mag-neg (suc a * n))
 
-pub station-room : (i : ℕ) → i < 65536 → mag (stationOf i) + 1048576 ≤ 2 ^ 40
+pub station-room : (i : ℕ) → i < 65536 → mag (stationOf i) + stationSpacing ≤ farthest
 unfolding stationOf
-station-room i h = omega (arith, mag-times (pos i +ℤ negsuc 4094) 1048576, mag-from i (negsuc 4094))
+station-room i h =
+    let first : ℤ = negℤ (pos stationsBelow) in
+    omega (arith, mag-times (pos i +ℤ first) stationSpacing, mag-from i first)
 
 -- what the machine reads back of a station's place
 pub station-read : {i : ℕ} {z : ℤ} → z ≡ stationOf i → i < 65536 → toZ w64 (ofZ w64 z) ≡ stationOf i
-station-read {i} {z} e h = ap (λ (k : ℤ). toZ w64 (ofZ w64 k)) e ∙ toZ-ofZ {w = w64} {z = stationOf i} (record { sfits = omega (arith, station-room i h) })
+station-read {i} {z} e h =
+    let fits : SFits w64 (stationOf i) = record { sfits = omega (arith, station-room i h) } in
+    ap (λ (k : ℤ). toZ w64 (ofZ w64 k)) e ∙ toZ-ofZ fits
 
-pub next-station : (i : ℕ) → stationOf (i + 1) ≡ stationOf i +ℤ pos (2 ^ 20)
+pub next-station : (i : ℕ) → stationOf (i + 1) ≡ stationOf i +ℤ pos stationSpacing
 unfolding stationOf
 next-station i =
+    let first : ℤ = negℤ (pos stationsBelow) in
     rw add-one
-    (ap (λ (z : ℤ). z *ℤ pos 1048576) (sucℤ-+ℤ (pos i) (negsuc 4094)) ∙ sucℤ-*ℤ (pos i +ℤ negsuc 4094) (pos 1048576))
+    (ap (λ (z : ℤ). z *ℤ pos stationSpacing) (sucℤ-+ℤ (pos i) first) ∙ sucℤ-*ℤ (pos i +ℤ first) (pos stationSpacing))
 
 -- the upper station of a pair, as the code works it out
-pub upper-fits : {i : ℕ} {z : ℤ} → z ≡ stationOf i → i < 65536 → SFits w64 (toZ w64 (ofZ w64 z) +ℤ pos 1048576)
-upper-fits {i} e h = rw (station-read e h) (record { sfits = omega (arith, mag-add (stationOf i) 1048576, station-room i h) })
+pub upper-fits : {i : ℕ} {z : ℤ} → z ≡ stationOf i → i < 65536 → SFits w64 (toZ w64 (ofZ w64 z) +ℤ pos stationSpacing)
+upper-fits {i} e h =
+    rw (station-read e h) (record { sfits = omega (arith, mag-add (stationOf i) stationSpacing, station-room i h) })
 
-pub upper-read : {i : ℕ} {z : ℤ} → z ≡ stationOf i → i < 65536 → toZ w64 (ofZ w64 (toZ w64 (ofZ w64 z) +ℤ pos 1048576)) ≡ stationOf (i + 1)
-upper-read {i} e h = toZ-ofZ (upper-fits e h) ∙ ap (λ (k : ℤ). k +ℤ pos 1048576) (station-read e h) ∙ sym (next-station i)
+pub upper-read : {i : ℕ} {z : ℤ} → z ≡ stationOf i → i < 65536 →
+    toZ w64 (ofZ w64 (toZ w64 (ofZ w64 z) +ℤ pos stationSpacing)) ≡ stationOf (i + 1)
+upper-read {i} e h = toZ-ofZ (upper-fits e h) ∙ ap (λ (k : ℤ). k +ℤ pos stationSpacing) (station-read e h) ∙ sym (next-station i)
 
-cond-most : (b : Bool) → cond b 16384 4095 + 4095 ≤ 20479
-cond-most true = omega arith
-cond-most false = omega arith
+-- an index past the last station is one that a u16 holds
+few-stations : (direct : Bool) → cond direct (lastJ 0) (lastJ 1) + stationsBelow + 1 < 65536
+few-stations true = omega arith
+few-stations false = omega arith
 
-pub last-most : (revolutions : ℕ) → lastOf revolutions ≤ 20479
+pub last-small : (revolutions : ℕ) → lastOf revolutions + 1 < 65536
 unfolding lastOf
-last-most revolutions = cond-most (eqb revolutions 0)
+last-small revolutions = few-stations (eqb revolutions 0)

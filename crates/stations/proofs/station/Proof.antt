@@ -1,4 +1,4 @@
--- `station` meets its contract: for any first j and any spacing of these sizes the sum and the product stay far within an i64.
+-- `station` meets its contract: for any first j that is small and any spacing up to the stations' the sum and the product stay far within an i64.
 use borrow.Author.Needs.{needs}
 use mathlib.Core.Path.{_≡_, ap, _∙_}
 use Prim.Native.Nat.{ℕ, _+_, _*_, _≤_, _<_}
@@ -9,7 +9,7 @@ use lib.Signed.{mag}
 use mir.Syntax.{w64}
 use mir.Val.{SFits, toZ, ofZ}
 use mir.Facts.{toZ-ofZ, toZ-pos}
-use Rattle.stations.specs.Stations.{stationOf}
+use Rattle.stations.specs.Stations.{stationSpacing, stationOf}
 use Rattle.stations.proofs.Places.{mag-from, mag-times}
 use Rattle.stations.proofs.station.Statement.{statement}
 use Rattle.stations.proofs.station.Tie as tie
@@ -21,14 +21,14 @@ module _ (i : ℕ) (first : ℤ) (h : i < 65536) (f : mag first < 65536) where
   sum-fits : SFits w64 (toZ w64 i +ℤ first)
   sum-fits = rw sum-read (record { sfits = omega (arith, mag-from i first, h, f) })
 
-  module _ (spacing : ℕ) (s : spacing ≤ 1048576) where
+  module _ (spacing : ℕ) (s : spacing ≤ stationSpacing) where
     back : toZ w64 (ofZ w64 (toZ w64 i +ℤ first)) *ℤ pos spacing ≡ (pos i +ℤ first) *ℤ pos spacing
     back = ap (λ z. z *ℤ pos spacing) (toZ-ofZ sum-fits ∙ sum-read)
 
     product-fits : SFits w64 (toZ w64 (ofZ w64 (toZ w64 i +ℤ first)) *ℤ pos spacing)
     product-fits =
         let most : mag (pos i +ℤ first) + 1 ≤ 131072 = omega (arith, mag-from i first, h, f) in
-        let product : (mag (pos i +ℤ first) + 1) * spacing ≤ 131072 * 1048576 = mul-le-mul most s in
+        let product : (mag (pos i +ℤ first) + 1) * spacing ≤ 131072 * stationSpacing = mul-le-mul most s in
         rw back (record { sfits = omega (arith, product, mag-times (pos i +ℤ first) spacing) })
 
 cast-result : tie.Need-cast-result
@@ -42,7 +42,9 @@ mul-result c = product-fits (c .args .i) _ (omega arith) (omega arith) _ (omega 
 
 returns : tie.Need-returns
 unfolding stationOf
-returns c = toZ-ofZ (product-fits (c .args .i) _ (omega arith) (omega arith) _ (omega arith)) ∙ back (c .args .i) _ (omega arith) (omega arith) _ (omega arith)
+returns c =
+    toZ-ofZ (product-fits (c .args .i) _ (omega arith) (omega arith) _ (omega arith))
+    ∙ back (c .args .i) _ (omega arith) (omega arith) _ (omega arith)
 
 pub station-spec : {M : Type 1} → statement M
 station-spec = tie.close (tie.spec cast-result add-result mul-result returns)

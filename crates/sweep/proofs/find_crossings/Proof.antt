@@ -2,14 +2,14 @@
 -- are left.
 use mathlib.Core.Path.{sym, _∙_}
 use mathlib.Core.Logic.{⊎-elim}
-use Prim.Native.Nat.{_+_, _-_, _≤_}
+use Prim.Native.Nat.{_+_, _-_, _<_}
 use native.Mathlib.Omega.{arith}
 use borrow.Author.Tests.{le-leb, lt-leb}
 use lib.Arith.{lt-of-le-ne}
 use Rattle.stations.specs.Grid.{stations}
 use Rattle.stations.specs.Sides.{sideAt}
 use Rattle.stations.specs.SearchGrid.{gridFor, lastFor}
-use Rattle.stations.proofs.Places.{last-most}
+use Rattle.stations.proofs.Places.{last-small}
 use Rattle.sweep.proofs.Turns.{Passed, starts, done, pair, too-many, passed, listed}
 use Rattle.sweep.proofs.find_crossings.Statement.{statement}
 use Rattle.sweep.proofs.find_crossings.Tie as tie
@@ -26,13 +26,13 @@ last-station-requires c κs = tt
 stations-holds : tie.Need-stations-holds Inv-stations μ-stations
 stations-holds c = starts _ _ _
 
--- in a turn i is at most the last station, and so small
-small : (c : tie.In-stations Inv-stations μ-stations) → c .before .stations .i ≤ 20479
+-- in a turn i is at most the last station, so that i + 1 is one that a u16 holds
+small : (c : tie.In-stations Inv-stations μ-stations) → c .before .stations .i + 1 < 65536
 small c =
     let looped = c .before in
     let start = looped .before in
     let search = start .before .args .search in
-    omega (arith, c .stations-test .taken, start .last-station .ensures, last-most (search .revolutions))
+    omega (arith, c .stations-test .taken, start .last-station .ensures, last-small (search .revolutions))
 
 side-of-station-requires : tie.Need-side-of-station-requires Inv-stations μ-stations
 side-of-station-requires c κs = tt
