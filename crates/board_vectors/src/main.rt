@@ -22,9 +22,9 @@ enum Next {
 }
 
 fn main() {
-    let mut turns = u64::MAX;
-    while turns > 0 && run_list() {
-        turns -= 1;
+    let mut rounds_left = u64::MAX;
+    while rounds_left > 0 && run_list() {
+        rounds_left -= 1;
     }
 }
 
@@ -32,8 +32,8 @@ fn main() {
 fn run_list() -> bool {
     let mut room = [0u8; ROOM];
     let mut size: usize = BOARD_SIZE;
-    let mut turns = u64::MAX;
-    while turns > 0 {
+    let mut rounds_left = u64::MAX;
+    while rounds_left > 0 {
         match run_command(&mut room, size) {
             Next::Lend(n) => {
                 size = n;
@@ -45,7 +45,7 @@ fn run_list() -> bool {
                 return false;
             }
         }
-        turns -= 1;
+        rounds_left -= 1;
     }
     false
 }

@@ -109,11 +109,10 @@ fn answer_one() -> bool {
     print_judged(judge_frame(&frame))
 }
 
-// A proved loop has to end, and nothing says that the input does: the count is one that no input
-// reaches.
+// A proved loop has to end, and nothing says that the input does: the count is one that no input reaches.
 fn main() {
-    let mut turns = u64::MAX;
-    while turns > 0 && answer_one() {
-        turns -= 1;
+    let mut rounds_left = u64::MAX;
+    while rounds_left > 0 && answer_one() {
+        rounds_left -= 1;
     }
 }

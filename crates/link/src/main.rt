@@ -50,11 +50,11 @@ fn read_pieces() -> Fed {
         more: true,
         ended: false,
     };
-    let mut turns = u64::MAX;
-    while turns > 0 && fed.more {
+    let mut rounds_left = u64::MAX;
+    while rounds_left > 0 && fed.more {
         let reader = fed.reader;
         fed = read_piece(reader, &mut bytes);
-        turns -= 1;
+        rounds_left -= 1;
     }
     fed
 }

@@ -32,11 +32,11 @@ fn main() {
         reader: new,
         more: true,
     };
-    let mut turns = u64::MAX;
-    while turns > 0 && ran.more {
+    let mut rounds_left = u64::MAX;
+    while rounds_left > 0 && ran.more {
         let reader = ran.reader;
         ran = run_command(reader, &mut bytes);
-        turns -= 1;
+        rounds_left -= 1;
     }
 }
 

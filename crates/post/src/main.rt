@@ -36,9 +36,9 @@ fn main() {
 // the input does: the count is one that no input reaches.
 fn post_all(board: &mut [u8]) -> bool {
     let mut bytes = [0u8; ANSWER_ROOM];
-    let mut turns = u64::MAX;
+    let mut rounds_left = u64::MAX;
     let mut place: u64 = 0;
-    while turns > 0 {
+    while rounds_left > 0 {
         match post_next(board, &mut bytes, place) {
             Next::At(next) => {
                 place = next;
@@ -50,7 +50,7 @@ fn post_all(board: &mut [u8]) -> bool {
                 return false;
             }
         }
-        turns -= 1;
+        rounds_left -= 1;
     }
     false
 }

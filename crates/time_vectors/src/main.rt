@@ -14,14 +14,14 @@ fn k_bits(frame: &[u8]) -> u64
 }
 
 // The last two bytes: those past the frame's end count as 0.
-fn turns_of(frame: &[u8]) -> u16 {
+fn revolutions_of(frame: &[u8]) -> u16 {
     (little_endian::word_at(frame, 16) % 65536) as u16
 }
 
 fn place_of(frame: &[u8]) -> Place {
     let triangle = time_bits::with_lambda(little_endian::word_at(frame, 0));
     let k = little_endian::signed_of(k_bits(frame));
-    flight_time::time_at(triangle, k, turns_of(frame))
+    flight_time::time_at(triangle, k, revolutions_of(frame))
 }
 
 // Takes one frame, and answers whether it was whole and its line was written.
@@ -41,11 +41,10 @@ fn answer_one() -> bool {
     io::write_all(STDOUT_FILENO, b"\n")
 }
 
-// A proved loop has to end, and nothing says that the input does: the count is one that no input
-// reaches.
+// A proved loop has to end, and nothing says that the input does: the count is one that no input reaches.
 fn main() {
-    let mut turns = u64::MAX;
-    while turns > 0 && answer_one() {
-        turns -= 1;
+    let mut rounds_left = u64::MAX;
+    while rounds_left > 0 && answer_one() {
+        rounds_left -= 1;
     }
 }

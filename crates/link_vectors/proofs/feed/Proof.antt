@@ -14,67 +14,25 @@ abbrev μ-loop : tie.MeasureT-loop
 μ-loop piece now₀ at₀ calls₀ now at calls = calls
 
 -- no more is taken than is left
-within : (c : tie.After-struct-known Inv-loop μ-loop) → c .before .before .before .before .loop .at + c .before .read .result .taken ≤ length (c .before .before .before .before .before .before .args .piece .now)
+within : (c : tie.After-struct-known Inv-loop μ-loop) →
+    let round = c .before .before .before .before in
+    round .loop .at + c .before .read .result .taken ≤ length (round .before .before .args .piece .now)
 within c =
-    let l = c .before .before .before .before .loop in
+    let round = c .before .before .before .before in
     let r = c .before .read in
-    rest-within _ (c .before .before .before .before .before .before .args .piece .now) (l .at) (r .result) (l .inv) (r .ensures)
-
-add-calls : tie.Need-add-calls Inv-loop μ-loop
-add-calls c = search needs
-
-loop-holds : tie.Need-loop-holds Inv-loop μ-loop
-loop-holds c = search needs
-
-sub-read : tie.Need-sub-read Inv-loop μ-loop
-sub-read c = search needs
-
-part-read-start : tie.Need-part-read-start Inv-loop μ-loop
-part-read-start c = search needs
-
-part-read-end : tie.Need-part-read-end Inv-loop μ-loop
-part-read-end c = search needs
-
-read-requires : tie.Need-read-requires Inv-loop μ-loop
-read-requires c κs = search needs
+    rest-within _ (round .before .before .args .piece .now) (round .loop .at) (r .result) (round .loop .inv) (r .ensures)
 
 add-at : tie.Need-add-at Inv-loop μ-loop
-add-at c = omega (arith, within c, c .before .before .before .before .before .before .good .1 .0)
+add-at c = let round = c .before .before .before .before in omega (arith, within c, round .before .before .good .1 .0)
 
 print-step-requires : tie.Need-print-step-requires Inv-loop μ-loop
 print-step-requires c κs = question-fits _ _ _ (c .before .before .read .ensures)
 
-returns : tie.Need-returns Inv-loop μ-loop
-returns c = search needs
-
-sub-calls : tie.Need-sub-calls Inv-loop μ-loop
-sub-calls c = search needs
-
-loop-less : tie.Need-loop-less Inv-loop μ-loop
-loop-less c = search needs
-
 loop-again : tie.Need-loop-again Inv-loop μ-loop
 loop-again c = within (c .before .before .before .before)
-
-returns-2 : tie.Need-returns-2 Inv-loop μ-loop
-returns-2 c = search needs
 
 pub feed-spec : {M : Type 1} → statement M
 feed-spec =
     tie.close
-    (tie.spec
-    Inv-loop
-    μ-loop
-    add-calls
-    loop-holds
-    sub-read
-    part-read-start
-    part-read-end
-    read-requires
-    add-at
-    print-step-requires
-    returns
-    sub-calls
-    loop-less
-    loop-again
-    returns-2)
+    (tie.spec Inv-loop μ-loop (search needs) (search needs) (search needs) (search needs) (search needs)
+    (search needs) add-at print-step-requires (search needs) (search needs) (search needs) loop-again (search needs))
