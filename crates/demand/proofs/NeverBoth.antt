@@ -5,8 +5,8 @@ use mathlib.Core.List.{List, _++_}
 use Prim.Native.Nat.{ℕ, _+_, _*_, _≤_}
 use native.Mathlib.Omega.{arith}
 use lib.Dec.{eqb}
-use lib.ListN.{length, take, drop, length-take}
-use lib.Seq.{take-append-seam, drop-append-seam}
+use lib.ListN.{length, drop}
+use lib.Seq.{drop-append-seam}
 use Rattle.little_endian.specs.Bytes.{written}
 use Rattle.records.specs.Records.{headBytes, answerBytes}
 use Rattle.records.proofs.Sizes.{head-length}
@@ -20,6 +20,7 @@ use Rattle.solution.specs.Table.{lateChecks}
 use Rattle.solution.specs.Solve.{Solved, refused, answered, settledOf, after, solveOf, longest, refusalFor, recordOf, Response, responseOf}
 use Rattle.demand.specs.Demand.{Recording}
 use Rattle.solver.proofs.Recorded.{room-same, when-answered, when-refused, has-room, apart, record-short}
+use Rattle.solver.proofs.WholeRecord.{record-laid, record-size, record-first}
 use Rattle.little_endian.proofs.Laid.{laid, laid-length}
 
 module _ (s : List ℕ) where
@@ -55,7 +56,7 @@ module _ (s : List ℕ) where
     over = written b (recordOf s)
 
     over-is : over ≡ recordOf s ++ drop (length (recordOf s)) b
-    over-is = laid b (recordOf s) short
+    over-is = record-laid s b h
 
     over-long : length over ≡ length b
     over-long = laid-length b (recordOf s) short
@@ -96,19 +97,8 @@ module _ (s : List ℕ) where
                     ∙ laid b (headBytes (refusalFor s n)) (omega (arith, k, h))
                     ∙ ap (λ (m : ℕ). headBytes (refusalFor s n) ++ drop m b) k,
               );
-          size = ap (λ (x : Response). x .size) r;
+          size = record-size s b h;
           fits = record-short s;
-          starts =
-              ap (λ (x : Response). take (length (recordOf s)) (x .buffer)) r
-              ∙ ap (take (length (recordOf s))) over-is
-              ∙ take-append-seam (recordOf s) (drop (length (recordOf s)) b);
+          starts = record-first s b h;
           again = again-by (solveOf s b .outcome) refl;
         }
-
-    -- of what a call of `respond` returns and leaves: the whole record stands at the buffer's start
-    pub whole-record : (r : ℕ) (after : List ℕ) → r ≡ responseOf s b .size → after ≡ responseOf s b .buffer → ((r ≤ length after) × (r ≡ length (take r after))) × (take r after ≡ recordOf s)
-    whole-record r after e f =
-        let n : r ≡ length (recordOf s) = e ∙ recording .size in
-        let t : take r after ≡ recordOf s = rw (n, f) (recording .starts) in
-        let long : r ≤ length after = omega (arith, n, ap length t, length-take r after) in
-        ((long, n ∙ sym (ap length t)), t)

@@ -12,7 +12,8 @@ use link_reader::Came;
 use link_reader::Reader;
 use link_reader::Step;
 use little_endian::u16_at;
-use replies::ROOM;
+use records::ANSWER_ROOM;
+use records::QUESTION_ROOM;
 use streams::Got;
 
 // The longest piece.
@@ -183,7 +184,7 @@ fn answer_step(step: Step) -> bool
 fn answer_kept(reader: Reader) {
     let bytes = reader.bytes;
     let count = reader.count;
-    if 0 < count && count <= records::QUESTION_ROOM {
+    if 0 < count && count <= QUESTION_ROOM {
         answer_first(&bytes, count);
     }
 }
@@ -197,7 +198,7 @@ fn answer_first(bytes: &[u8], n: usize) -> bool
 
 // Writes the record of a question, and answers whether it could be written.
 fn answer(question: &[u8]) -> bool {
-    let mut out = [0u8; ROOM];
+    let mut out = [0u8; ANSWER_ROOM];
     let n = replies::record_of(question, &mut out);
     if io::write_all(STDOUT_FILENO, &out[..n]) {
         return true;

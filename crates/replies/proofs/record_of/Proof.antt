@@ -1,9 +1,12 @@
--- `record_of` meets its contract: 528 bytes have room for every record, so that the whole record stands at the buffer's start.
+-- `record_of` meets its contract: the buffer has room for every record, so that the whole record stands at its start.
 use borrow.Author.Needs.{needs}
+use mathlib.Core.Path.{ap, _∙_}
 use Prim.Native.Nat.{_≤_}
 use native.Mathlib.Omega.{arith}
 use lib.ListN.{length}
-use Rattle.demand.proofs.NeverBoth.{whole-record}
+use Rattle.solution.specs.Solve.{longest, Response}
+use Rattle.solver.proofs.Recorded.{has-room}
+use Rattle.solver.proofs.WholeRecord.{whole-record}
 use Rattle.replies.proofs.record_of.Statement.{statement}
 use Rattle.replies.proofs.record_of.Tie as tie
 
@@ -13,9 +16,10 @@ respond-requires c κs = search needs
 returns : tie.Need-returns
 returns c =
     let a = c .before .before .before .args in
-    let room : 528 ≤ length (a .out .now) = omega arith in
-    let whole = whole-record (a .question .now) (a .out .now) room _ _ (c .respond .ensures .0) (c .respond .ensures .1) in
-    (whole .0, (whole .1, c .respond .ensures .1))
+    let room : longest ≤ length (a .out .now) = omega arith in
+    let stands = whole-record (a .question .now) (a .out .now) room _ _ (c .respond .ensures .0) (c .respond .ensures .1) in
+    let left = c .respond .ensures .1 ∙ ap (λ (x : Response). x .buffer) (has-room (a .question .now) (a .out .now) room) in
+    (stands .sized, (left, ((stands .within, stands .counts), stands .bytes)))
 
 pub record-of-spec : {M : Type 1} → statement M
 record-of-spec = tie.close (tie.spec respond-requires returns)

@@ -1,0 +1,2 @@
+mod SlotSteps
+pub mod Inputs
