@@ -31,15 +31,15 @@ least-unless {x} L M C a b never = by (ltb (num x * M) (L * den x)) (ltb→lt (n
     by true f g = absurd (never (record { divisor = C; is-f64 = a .is-f64; is-finite = a .is-finite; at-most = le-of-lt (f tt) }))
     by false f g = record { divisor = C; is-finite = b .is-finite; not-negative = b .not-negative; at-least = g tt }
 
--- two bounds that exclude each other
+-- no number is at most 1 / q and at least 1 / m, where q is at least twice m
 exclusive : {x : Float} (q m : ℕ) → AtMost x 1 q → AtLeast x 1 m → 0 < m → m * 2 ≤ q → ⊥
 exclusive {x} q m a b M h = clash (num x) (den x) (den-pos x) (a .at-most) (b .at-least)
   where
     clash : (n d : ℕ) → 0 < d → n * q ≤ 1 * d → 1 * d ≤ n * m → ⊥
-    clash n d D f g = halves (n * m) d D (double n) g
+    clash n d D f g = halves (n * m) d D double g
       where
-        double : (k : ℕ) → n * m * 2 ≤ d
-        double k = omega (arith, mul-le-mul-left n h, f)
+        double : n * m * 2 ≤ d
+        double = omega (arith, mul-le-mul-left n h, f)
 
         halves : (z d : ℕ) → 0 < d → z * 2 ≤ d → 1 * d ≤ z → ⊥
         halves z d D f g = omega arith

@@ -266,7 +266,7 @@ module _ (s b : List ℕ) where
                 only = λ e.
                     let z = answered-when (e .0) (e .1) .0 in
                     let r = is-none (eqb C 0) (anyVoid p) (ltb 8 C) (allFinite p) (row 0 z) in
-                    (some-pairs (r .0), few z, finite-all (r .2));
+                    (some-pairs (r .0), omega (arith, few z), finite-all (r .2));
                 always = λ h.
                     let z = of-row 0 (rw (ne-eqb C 0 (λ k. omega (arith, k, h .0)), le-ltb 8 C (h .1), all-finite (h .2))) in
                     (length (entriesOf p), ap (λ (x : Solved). x .outcome) (when-answered z));
