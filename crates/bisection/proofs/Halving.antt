@@ -1,4 +1,5 @@
--- Halving, one step at a time: in an interval of the width 2^(n+1) the middle is 2^n above the lower end and is neither end, so that the definition's step is one choice.
+-- Halving, one step at a time: in an interval of the width 2^(n+1) the middle is 2^n above the lower end and is neither end, so that the
+-- definition's step is one choice.
 use mathlib.Core.Path.{_≡_, refl, sym, ap, _∙_}
 use mathlib.Core.Bool.{true, false, cond, or-false}
 use Prim.Native.Nat.{ℕ, suc, _+_, _-_, _/_, _^_, _≤_}

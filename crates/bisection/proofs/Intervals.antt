@@ -1,5 +1,5 @@
--- What `bisect` asks of an interval and finds in it: the machine's numbers for the width and the middle are the definition's, each half is an interval again,
--- and each way of the code is the definition's.
+-- What `bisect` asks of an interval and finds in it: the machine's numbers for the width and the middle are the definition's, each half
+-- is an interval again, and each way of the code is the definition's.
 use mathlib.Core.Path.{_≡_, refl, sym, ap, _∙_, subst}
 use mathlib.Core.Bool.{true, false, cond}
 use Prim.Native.Nat.{ℕ, zero, suc, _+_, _-_, _^_, _≤_, _<_}

@@ -1,5 +1,5 @@
--- The halving of an interval whose lower end counts as on a given side: it depends on no place below the interval, so that above the middle the given side does
--- not matter; and with the lower end's own side it is the halving of 01 (`own-side`, `own-bracket`).
+-- The halving of an interval whose lower end counts as on a given side: it depends on no place below the interval, so that above the
+-- middle the given side does not matter; and with the lower end's own side it is the halving of 01 (`own-side`, `own-bracket`).
 use mathlib.Core.Path.{_≡_, refl, sym, ap, _∙_, subst, fun-ext}
 use mathlib.Core.Bool.{Bool, true, false, cond}
 use Prim.Native.Nat.{ℕ, zero, suc, _+_, _^_, _<_}

@@ -23,9 +23,9 @@ middleOf a b = quotZ (a +ℤ b) (pos 2)
 abbrev pub stops : (ℤ → Side) → ℤ → ℤ → Bool
 stops σ a b = same (b -ℤ a) (pos 1) || (isUnknown (σ (middleOf a b)) || (same (middleOf a b) a || same (middleOf a b) b))
 
--- the bracket that the interval from a to b ends with, halved h times so far: the middle replaces the upper end where it is opposite to the lower one, and
--- else the lower end; where the ends are on opposite sides that is the end on the middle's own side. The first number bounds how often it is halved from
--- here on; the halving of a pair stops no later than that by its own rules
+-- the bracket that the interval from a to b ends with, halved h times so far: the middle replaces the upper end where it is opposite to
+-- the lower one, and else the lower end; where the ends are on opposite sides that is the end on the middle's own side. The first number
+-- bounds how often it is halved from here on; the halving of a pair stops no later than that by its own rules
 unfoldable pub bisectOf : (ℤ → Side) → ℕ → ℕ → ℤ → ℤ → Bracket
 bisectOf σ zero h a b = record { lower = a; upper = b; halvings = h }
 bisectOf σ (suc n) h a b =

@@ -23,7 +23,8 @@ use Rattle.stations.specs.Sides.{sideOf, sideAt, isUnknown}
 use Rattle.stations.specs.Grid.{Grid}
 use Rattle.bisection.specs.Pairs.{crosses}
 use Rattle.sweep.specs.Crossings.{crossings, sweepOf}
-use Rattle.crossing_laws.proofs.Theorems.{clash, counted, none-exactly, void-exactly}
+use Rattle.sweep.proofs.Counts.{counted}
+use Rattle.crossing_laws.proofs.Theorems.{clash, none-exactly, void-exactly}
 use Rattle.crossing_laws.proofs.Corners.{none-below, below-exactly}
 
 -- ---- a known side has a finite time behind it

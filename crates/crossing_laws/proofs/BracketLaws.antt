@@ -1,4 +1,5 @@
--- What holds of every crossing's bracket: along the halving the interval stays within its pair, 2^(20−h) wide, with its ends on opposite sides, and halving comes to no other interval at which it stops.
+-- What holds of every crossing's bracket: along the halving the interval stays within its pair, 2^(20−h) wide, with its ends on opposite
+-- sides, and halving comes to no other interval at which it stops.
 use mathlib.Core.Path.{_≡_, refl, sym, ap, _∙_, subst}
 use mathlib.Core.Bool.{Bool, true, false, cond}
 use mathlib.Core.Logic.{_⊎_, inl, inr}
@@ -187,7 +188,8 @@ module _ (σ : ℤ → Side) (g : Grid) (r : IsRising g) (i : ℕ) (x y : ℤ) (
       rw (r .next i)
       (follows σ (g .place i) (g .halvings i) (r .most i) x y h moved .goes ∙ at-stop σ (g .place i) (g .halvings i) (r .most i) (20 - h) h x y e)
 
-  -- every interval that the halving of a pair comes to has the width 2^(20−h); while it is wider than 1, its middle is halfway and strictly inside
+  -- every interval that the halving of a pair comes to has the width 2^(20−h); while it is wider than 1, its middle is halfway and
+  -- strictly inside
   pub comes-width : (h ≤ 20) × (y ≡ x +ℤ pos (2 ^ (20 - h)))
   comes-width = width-at σ (g .place i) (g .halvings i) (r .most i) x y h moved
 

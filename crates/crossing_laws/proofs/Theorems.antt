@@ -1,5 +1,5 @@
--- What the sweep's definition says, in words that a person can hold beside 01: over any side of each place and any grid, for its places from 0 to `last`.
--- The brackets' own theorems are `bracket-holds` and `only-one` in BracketLaws.
+-- What the sweep's definition says, in words that a person can hold beside 01: over any side of each place and any grid, for its places
+-- from 0 to `last`. The brackets' own theorems are `bracket-holds` and `only-one` in BracketLaws.
 use mathlib.Core.Path.{_≡_, refl, sym, ap, _∙_, subst}
 use mathlib.Core.Bool.{Bool, true, false}
 use mathlib.Core.Logic.{_⊎_, inl, inr, ⊎-elim, _↔_}
@@ -8,8 +8,8 @@ use Prim.Native.Nat.{ℕ, zero, suc, _+_, _-_, _*_, _^_, _≤_, _<_, min}
 use native.Mathlib.Omega.{arith}
 use borrow.Author.Tests.{ltb-true, ltb-false, lt-ltb, le-ltb, ne-eqb}
 use lib.Dec.{ltb}
-use lib.ListN.{length, getD, take, replicate, length-map, length-take, length-append, length-replicate, List·getD-append, List·getD-map}
-use lib.Seq.{getD-take, take-all, take-append-seam}
+use lib.ListN.{length, getD, take, replicate, length-take, length-append, length-replicate, List·getD-append, List·getD-map}
+use lib.Seq.{getD-take}
 use native.Mathlib.Nat.{add-zero, add-assoc}
 use native.Mathlib.Numerals.{add-one}
 use lib.IntN.{ℤ, pos, negℤ, _+ℤ_, +ℤ-assoc, +ℤ-idr}
@@ -23,6 +23,7 @@ use Rattle.stations.specs.Grid.{Grid, IsRising}
 use Rattle.stations.specs.Stations.{stationOf, lastOf}
 use Rattle.bisection.specs.Pairs.{crosses, bracketOf}
 use Rattle.sweep.specs.Crossings.{upTo, some, crossings, someVoid, brackets, blank, walkOf, reported, sweepOf}
+use Rattle.sweep.proofs.Counts.{length-is, counted}
 use Rattle.crossing_laws.specs.Listed.{Listed, Rising}
 use Rattle.bisection.proofs.Halving.{same-side, lower-known, upper-known}
 use Rattle.stations.proofs.Places.{next-station}
@@ -149,7 +150,10 @@ listed-at (suc e) (x ∷ xs) h = inr (listed-at e xs (omega arith))
 at-listed : (i : ℕ) (xs : List ℕ) → Listed i xs → (e : ℕ) × ((e < length xs) × (getD xs e 0 ≡ i))
 unfolding Listed
 at-listed i [] h = absurd h
-at-listed i (x ∷ xs) h = ⊎-elim (λ d. (0, (omega arith, sym d))) (λ l. let r = at-listed i xs l in (suc (r .0), (omega (arith, r .1 .0), r .1 .1))) h
+at-listed i (x ∷ xs) h = ⊎-elim (λ d. (0, (omega arith, sym d))) (λ l. later (at-listed i xs l)) h
+  where
+    later : (e : ℕ) × ((e < length xs) × (getD xs e 0 ≡ i)) → (e : ℕ) × ((e < length (x ∷ xs)) × (getD (x ∷ xs) e 0 ≡ i))
+    later r = (suc (r .0), (omega (arith, r .1 .0), r .1 .1))
 
 rising-at : (e f : ℕ) (xs : List ℕ) → Rising xs → e < f → f < length xs → getD xs e 0 < getD xs f 0
 unfolding Rising
@@ -172,17 +176,22 @@ places-up g r i (suc n) =
           ∙ +ℤ-assoc (g .place i) (pos (u .0)) (pos w),
     )
 
-pairs-rise : (σ : ℤ → Side) (g : Grid) → IsRising g → (i j : ℕ) → i < j → crosses σ g i ≡ true → crosses σ g j ≡ true → (d : ℕ) × (bracketOf σ g j .lower ≡ bracketOf σ g i .upper +ℤ pos d)
+pairs-rise : (σ : ℤ → Side) (g : Grid) → IsRising g → (i j : ℕ) → i < j → crosses σ g i ≡ true → crosses σ g j ≡ true →
+    (d : ℕ) × (bracketOf σ g j .lower ≡ bracketOf σ g i .upper +ℤ pos d)
 pairs-rise σ g r i j l p q =
     let a = bracket-holds σ g r i p in
     let b = bracket-holds σ g r j q in
     let n : ℕ = j - (i + 1) in
     let u = places-up g r (i + 1) n in
-    let e : j ≡ i + 1 + n = omega (arith, l) in (
+    let e : j ≡ i + 1 + n = omega (arith, l) in
+    let upper = bracketOf σ g i .upper in
+    let from-upper : g .place (i + 1) +ℤ pos (u .0) ≡ upper +ℤ pos (a .toUpper + u .0) =
+    ap (λ (z : ℤ). z +ℤ pos (u .0)) (a .upperIs) ∙ +ℤ-assoc upper (pos (a .toUpper)) (pos (u .0)) in
+    let lower-place : g .place j ≡ upper +ℤ pos (a .toUpper + u .0) = ap (g .place) e ∙ u .1 ∙ from-upper in (
       a .toUpper + u .0 + b .fromLower,
       b .lowerIs
-          ∙ ap (λ (z : ℤ). z +ℤ pos (b .fromLower)) (ap (g .place) e ∙ u .1 ∙ ap (λ (z : ℤ). z +ℤ pos (u .0)) (a .upperIs) ∙ +ℤ-assoc (bracketOf σ g i .upper) (pos (a .toUpper)) (pos (u .0)))
-          ∙ +ℤ-assoc (bracketOf σ g i .upper) (pos (a .toUpper + u .0)) (pos (b .fromLower)),
+          ∙ ap (λ (z : ℤ). z +ℤ pos (b .fromLower)) lower-place
+          ∙ +ℤ-assoc upper (pos (a .toUpper + u .0)) (pos (b .fromLower)),
     )
 
 module _ (σ : ℤ → Side) (g : Grid) (last : ℕ) where
@@ -199,15 +208,12 @@ module _ (σ : ℤ → Side) (g : Grid) (last : ℕ) where
   unfolding crossings
   rises = rising-keep (crosses σ g) (upTo last) (rising-up last)
 
-  -- as many brackets as crossings
-  pub length-is : length (brackets σ g last) ≡ length (crossings σ g last)
-  unfolding brackets
-  length-is = length-map (crossings σ g last) (bracketOf σ g)
+  -- how many there are
+  count-is : sweepOf σ g last .count ≡ min 8 (length (crossings σ g last))
+  count-is = counted σ g last
 
-  -- the count is the number of crossings, where that is at most eight, and eight where it is more
-  pub counted : sweepOf σ g last .count ≡ min 8 (length (crossings σ g last))
-  unfolding sweepOf reported
-  counted = ap (min 8) length-is
+  as-many : length (brackets σ g last) ≡ length (crossings σ g last)
+  as-many = length-is σ g last
 
   -- eight places: the used ones hold the brackets of the crossings, in their order, and the others zeros
   pub eight-places : length (sweepOf σ g last .list) ≡ 8
@@ -218,7 +224,8 @@ module _ (σ : ℤ → Side) (g : Grid) (last : ℕ) where
       ∙ ap (λ (k : ℕ). length t + k) (length-replicate (8 - length t) blank)
       ∙ omega (arith, length-take 8 (brackets σ g last))
 
-  pub in-order : (e : ℕ) → e < sweepOf σ g last .count → getD (sweepOf σ g last .list) e blank ≡ bracketOf σ g (getD (crossings σ g last) e 0)
+  pub in-order : (e : ℕ) → e < sweepOf σ g last .count →
+      getD (sweepOf σ g last .list) e blank ≡ bracketOf σ g (getD (crossings σ g last) e 0)
   unfolding sweepOf reported brackets
   in-order e h =
       let few : e < length (take 8 (brackets σ g last)) = rw (length-take 8 (brackets σ g last)) h in
@@ -229,48 +236,49 @@ module _ (σ : ℤ → Side) (g : Grid) (last : ℕ) where
       ∙ any-default (brackets σ g last) e blank (bracketOf σ g 0) some
       ∙ List·getD-map (bracketOf σ g) (crossings σ g last) e 0
 
-  pub all-listed : length (crossings σ g last) ≤ 8 → take (sweepOf σ g last .count) (sweepOf σ g last .list) ≡ brackets σ g last
-  unfolding sweepOf reported
-  all-listed h =
-      let few : length (brackets σ g last) ≤ 8 = omega (arith, length-is, h) in
-      let count : min 8 (length (brackets σ g last)) ≡ length (brackets σ g last) = omega (arith, few) in
-      rw (take-all 8 (brackets σ g last) few, count) (take-append-seam (brackets σ g last) (replicate (8 - length (brackets σ g last)) blank))
-
   pub unused : (e : ℕ) → sweepOf σ g last .count ≤ e → getD (sweepOf σ g last .list) e blank ≡ blank
   unfolding sweepOf reported
-  unused e h = padded (take 8 (brackets σ g last)) (8 - length (take 8 (brackets σ g last))) e (rw (length-take 8 (brackets σ g last)) h)
+  unused e h =
+      let used = take 8 (brackets σ g last) in
+      padded used (8 - length used) e (rw (length-take 8 (brackets σ g last)) h)
 
   -- every used place holds the bracket of a pair that crosses; and where there are at most eight crossings, each has its place
-  pub only-crossings : (e : ℕ) → e < sweepOf σ g last .count → (i : ℕ) × ((i < last) × (crosses σ g i ≡ true) × (getD (sweepOf σ g last .list) e blank ≡ bracketOf σ g i))
+  pub only-crossings : (e : ℕ) → e < sweepOf σ g last .count →
+      (i : ℕ) × ((i < last) × (crosses σ g i ≡ true) × (getD (sweepOf σ g last .list) e blank ≡ bracketOf σ g i))
   only-crossings e h =
-      let l : e < length (crossings σ g last) = omega (arith, h, counted) in
-      let c = listed-exactly (getD (crossings σ g last) e 0) .0 (listed-at e (crossings σ g last) l) in
-      (getD (crossings σ g last) e 0, (c .0, c .1, in-order e h))
+      let i = getD (crossings σ g last) e 0 in
+      let l : e < length (crossings σ g last) = omega (arith, h, count-is) in
+      let c = listed-exactly i .0 (listed-at e (crossings σ g last) l) in
+      (i, (c .0, c .1, in-order e h))
 
-  pub every-crossing : length (crossings σ g last) ≤ 8 → (i : ℕ) → i < last → crosses σ g i ≡ true → (e : ℕ) × ((e < sweepOf σ g last .count) × (getD (sweepOf σ g last .list) e blank ≡ bracketOf σ g i))
+  pub every-crossing : length (crossings σ g last) ≤ 8 → (i : ℕ) → i < last → crosses σ g i ≡ true →
+      (e : ℕ) × ((e < sweepOf σ g last .count) × (getD (sweepOf σ g last .list) e blank ≡ bracketOf σ g i))
   every-crossing few i h y =
       let p = at-listed i (crossings σ g last) (listed-exactly i .1 (h, y)) in
-      let b : p .0 < sweepOf σ g last .count = rw counted (omega (arith, p .1 .0, few)) in
+      let b : p .0 < sweepOf σ g last .count = rw count-is (omega (arith, p .1 .0, few)) in
       (p .0, (b, in-order (p .0) b ∙ ap (bracketOf σ g) (p .1 .1)))
 
-  -- the places rise in x: the upper end of one is at most the lower end of any later one
+  -- the places of the list rise in x: the upper end of one is at most the lower end of any later one
   pub places-rise : IsRising g → (e f : ℕ) → e < f → f < sweepOf σ g last .count →
       (d : ℕ) × (getD (sweepOf σ g last .list) f blank .lower ≡ getD (sweepOf σ g last .list) e blank .upper +ℤ pos d)
   places-rise w e f l h =
-      let k : f < length (crossings σ g last) = omega (arith, h, counted) in
-      let i = getD (crossings σ g last) e 0 in
-      let j = getD (crossings σ g last) f 0 in
+      let all = crossings σ g last in
+      let i = getD all e 0 in
+      let j = getD all f 0 in
+      let k : f < length all = omega (arith, h, count-is) in
+      let near : e < length all = omega (arith, l, k) in
       let lower : e < sweepOf σ g last .count = omega (arith, l, h) in
-      let near : e < length (crossings σ g last) = omega (arith, l, k) in
-      let r = pairs-rise σ g w i j (rising-at e f (crossings σ g last) rises l k) (listed-exactly i .0 (listed-at e (crossings σ g last) near) .1) (listed-exactly j .0 (listed-at f (crossings σ g last) k) .1) in
+      let first = listed-exactly i .0 (listed-at e all near) .1 in
+      let second = listed-exactly j .0 (listed-at f all k) .1 in
+      let r = pairs-rise σ g w i j (rising-at e f all rises l k) first second in
       (r .0, rw (in-order e lower, in-order f h) (r .1))
 
   -- a ninth is reported exactly when there are more than eight
   pub ninth-exactly : (sweepOf σ g last .walk ≡ NinthFound) ↔ (8 < length (crossings σ g last))
   unfolding sweepOf reported
   ninth-exactly = (
-    λ e. subst (λ (n : ℕ). 8 < n) length-is (ltb-true 8 (length (brackets σ g last)) (walk-ninth _ (someVoid σ g last) e)),
-    λ h. rw (length-is, lt-ltb 8 (length (crossings σ g last)) h),
+    λ e. subst (λ (n : ℕ). 8 < n) as-many (ltb-true 8 (length (brackets σ g last)) (walk-ninth _ (someVoid σ g last) e)),
+    λ h. rw (as-many, lt-ltb 8 (length (crossings σ g last)) h),
   )
 
   -- some place is void: exactly that, over all places, wherever there is no ninth crossing
@@ -289,26 +297,31 @@ module _ (σ : ℤ → Side) (g : Grid) (last : ℕ) where
   ninth = ltb 8 (length (brackets σ g last))
 
   few : ninth ≡ false → length (crossings σ g last) ≤ 8
-  few e = subst (λ (n : ℕ). n ≤ 8) length-is (ltb-false 8 (length (brackets σ g last)) e)
+  few e = subst (λ (n : ℕ). n ≤ 8) as-many (ltb-false 8 (length (brackets σ g last)) e)
 
-  pub void-exactly : (sweepOf σ g last .walk ≡ SomeVoid) ↔ ((length (crossings σ g last) ≤ 8) × ((i : ℕ) × ((i ≤ last) × (isUnknown (σ (g .place i)) ≡ true))))
+  pub void-exactly : (sweepOf σ g last .walk ≡ SomeVoid)
+      ↔ ((length (crossings σ g last) ≤ 8) × ((i : ℕ) × ((i ≤ last) × (isUnknown (σ (g .place i)) ≡ true))))
   unfolding sweepOf reported
   void-exactly = (
-    λ e. (few (walk-void ninth (someVoid σ g last) e .0), at-void (walk-void ninth (someVoid σ g last) e .1)),
-    λ h. rw (length-is, le-ltb 8 (length (crossings σ g last)) (h .0), void-at (h .1 .0) (h .1 .1 .0) (h .1 .1 .1)),
+    λ e. let t = walk-void ninth (someVoid σ g last) e in (few (t .0), at-void (t .1)),
+    λ h. rw (as-many, le-ltb 8 (length (crossings σ g last)) (h .0), void-at (h .1 .0) (h .1 .1 .0) (h .1 .1 .1)),
   )
 
-  pub timed-exactly : (sweepOf σ g last .walk ≡ AllTimed) ↔ ((length (crossings σ g last) ≤ 8) × ((i : ℕ) → i ≤ last → isUnknown (σ (g .place i)) ≡ false))
+  -- no place is void
+  all-timed : ((i : ℕ) → i ≤ last → isUnknown (σ (g .place i)) ≡ false) → someVoid σ g last ≡ false
+  all-timed f = false-by (someVoid σ g last) (λ e. let v = at-void e in clash (v .1 .1) (f (v .0) (v .1 .0)))
+
+  pub timed-exactly : (sweepOf σ g last .walk ≡ AllTimed)
+      ↔ ((length (crossings σ g last) ≤ 8) × ((i : ℕ) → i ≤ last → isUnknown (σ (g .place i)) ≡ false))
   unfolding sweepOf reported
   timed-exactly = (
-    λ e. (
-      few (walk-timed ninth (someVoid σ g last) e .0),
-      λ i h. false-by (isUnknown (σ (g .place i))) (λ u. clash (void-at i h u) (walk-timed ninth (someVoid σ g last) e .1)),
-    ),
-    λ h. rw (length-is, le-ltb 8 (length (crossings σ g last)) (h .0), false-by (someVoid σ g last) (λ e. clash (at-void e .1 .1) (h .1 (at-void e .0) (at-void e .1 .0)))),
+    λ e.
+        let t = walk-timed ninth (someVoid σ g last) e in
+        (few (t .0), λ i h. false-by (isUnknown (σ (g .place i))) (λ u. clash (void-at i h u) (t .1))),
+    λ h. rw (as-many, le-ltb 8 (length (crossings σ g last)) (h .0), all-timed (h .1)),
   )
 
-  -- no place is used exactly when no pair crosses
+  -- no place of the list is used exactly when no pair crosses
   empty-by : (xs : List ℕ) → ((i : ℕ) → Listed i xs → ⊥) → length xs ≡ 0
   unfolding Listed
   empty-by [] f = refl
@@ -322,9 +335,11 @@ module _ (σ : ℤ → Side) (g : Grid) (last : ℕ) where
   pub none-exactly : (sweepOf σ g last .count ≡ 0) ↔ ((i : ℕ) → i < last → crosses σ g i ≡ false)
   none-exactly = (
     λ e i h.
-        let z : length (crossings σ g last) ≡ 0 = omega (arith, counted, e) in
+        let z : length (crossings σ g last) ≡ 0 = omega (arith, count-is, e) in
         false-by (crosses σ g i) (λ y. not-listed i (crossings σ g last) z (listed-exactly i .1 (h, y))),
     λ f.
-        let z : length (crossings σ g last) ≡ 0 = empty-by (crossings σ g last) (λ i h. clash (listed-exactly i .0 h .1) (f i (listed-exactly i .0 h .0))) in
-        omega (arith, counted, z),
+        let none : (i : ℕ) → Listed i (crossings σ g last) → ⊥ =
+        λ i h. let c = listed-exactly i .0 h in clash (c .1) (f i (c .0)) in
+        let z : length (crossings σ g last) ≡ 0 = empty-by (crossings σ g last) none in
+        omega (arith, count-is, z),
   )

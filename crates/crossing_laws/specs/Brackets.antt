@@ -1,5 +1,5 @@
--- What holds of a crossing's bracket, said without the recursion that finds it: which intervals the halving of a pair comes to, and what is true of the one
--- at which it stops. A pair begins with `initial` halvings and is 2^(20−initial) wide.
+-- What holds of a crossing's bracket, said without the recursion that finds it: which intervals the halving of a pair comes to, and what
+-- is true of the one at which it stops. A pair begins with `initial` halvings and is 2^(20−initial) wide.
 use mathlib.Core.Path.{_≡_}
 use mathlib.Core.Bool.{true, false}
 use mathlib.Core.Logic.{_⊎_}
@@ -10,7 +10,8 @@ use Rattle.stations.specs.declared.side.Side.{Side}
 use Rattle.stations.specs.Sides.{opposite, isUnknown}
 use Rattle.bisection.specs.Halving.{middleOf, stops}
 
--- halving the interval from a to b comes to the one from x to y after h halvings. In a crossing's interval the two ends are on different sides, so that a middle with a time is on the side of just one
+-- halving the interval from a to b comes to the one from x to y after h halvings. In a crossing's interval the two ends are on different
+-- sides, so that a middle with a time is on the side of just one
 pub data Comes (σ : ℤ → Side) (a b : ℤ) (initial : ℕ) : ℤ → ℤ → ℕ → Type 0 where
   start : Comes σ a b initial a b initial
   -- the middle is not on the lower end's side: it replaces the upper end

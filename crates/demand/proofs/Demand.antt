@@ -28,7 +28,8 @@ use Rattle.crossing_laws.specs.Listed.{Listed}
 use Rattle.crossing_laws.proofs.Corners.{no-place}
 use Rattle.bisection.specs.Pairs.{crosses}
 use Rattle.sweep.specs.Crossings.{crossings}
-use Rattle.crossing_laws.proofs.Theorems.{clash, false-by, listed-exactly, rises, counted, none-exactly, void-at as some-at, at-void as some-void}
+use Rattle.sweep.proofs.Counts.{counted}
+use Rattle.crossing_laws.proofs.Theorems.{clash, false-by, listed-exactly, rises, none-exactly, void-at as some-at, at-void as some-void}
 use Rattle.stations.proofs.Grids.{grid-rises}
 use Rattle.solution.specs.declared.Outcome.{Outcome}
 use Rattle.solution.specs.declared.Outcome.the-variants.{Refused, Answered}

@@ -14,7 +14,7 @@ use Rattle.sweep.specs.Crossings.{crossings, brackets, someVoid, walkOf, report
 use Rattle.sweep.specs.declared.Crossings.{Crossings}
 use Rattle.sweep.specs.declared.Walk.{Walk}
 use Rattle.sweep.specs.declared.Walk.the-variants.{AllTimed, SomeVoid, NinthFound}
-use Rattle.crossing_laws.proofs.Theorems.{counted, length-is, all-listed}
+use Rattle.sweep.proofs.Counts.{counted, length-is, all-listed}
 use Rattle.entries.specs.Entries.{entryFor, finiteFor, every}
 use Rattle.solution.specs.Crossed.{sidesOf, gridOf, lastPlace, bracketsOf, entriesOf}
 use Rattle.solution.specs.Table.{crossingCount, anyVoid, allFinite, lateChecks}

@@ -1,5 +1,5 @@
--- A grid: places in rising x, numbered from 0, and with how many halvings the bisection of each neighbouring pair begins. The definitions and the laws of a
--- sweep hold for any grid; the grid of a search is `gridFor` in SearchGrid. Definitions only.
+-- A grid: places in rising x, numbered from 0, and with how many halvings the bisection of each neighbouring pair begins. The definitions
+-- and the laws of a sweep hold for any grid; the grid of a search is `gridFor` in SearchGrid. Definitions only.
 use Prim.Native.Nat.{ℕ, _+_, _-_, _^_, _≤_}
 use mathlib.Core.Path.{_≡_}
 use lib.IntN.{ℤ, pos, _+ℤ_}

@@ -24,6 +24,7 @@ stationOf i = (pos i -ℤ pos stationsBelow) *ℤ pos stationSpacing
 unfoldable pub lastOf : ℕ → ℕ
 lastOf revolutions = lastJ revolutions + stationsBelow
 
--- how far from k = 0 a place and a pair at it may reach: an i64 holds the sum of two such places, and every station that a u16 counts is well within
+-- how far from k = 0 a place and a pair at it may reach: an i64 holds the sum of two such places, and every station that a u16 counts is
+-- well within
 abbrev pub farthest : ℕ
 farthest = 2 ^ 40

@@ -1,4 +1,5 @@
--- The invariant of the walk over the places of a grid, `Passed`: how it begins, what a turn makes of it, and what it says where the walk ends.
+-- The invariant of the walk over the places of a grid, `Passed`: how it begins, what a turn makes of it, and what it says where the walk
+-- ends.
 use mathlib.Core.Path.{_≡_, refl, sym, ap, _∙_, subst}
 use mathlib.Core.Bool.{Bool, true, false, cond, _||_}
 use mathlib.Core.List.{List, [], _∷_, _++_, append-nil}

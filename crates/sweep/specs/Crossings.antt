@@ -1,4 +1,5 @@
--- Crossings and their brackets (01, Stations, sides, crossings), over the side of each place; no time stands in these definitions, and nothing that a loop keeps. Definitions only.
+-- Crossings and their brackets (01, Stations, sides, crossings), over the side of each place; no time stands in these definitions, and
+-- nothing that a loop keeps. Definitions only.
 use Prim.Native.Nat.{ℕ, zero, suc, _+_, _-_, min}
 use mathlib.Core.Bool.{Bool, false, cond, _||_}
 use mathlib.Core.List.{List, [], _∷_, _++_, map}
@@ -54,7 +55,8 @@ eight bs = bs ++ replicate (8 - length bs) blank
 abbrev pub walkOf : Bool → Bool → Walk
 walkOf ninth void = cond ninth NinthFound (cond void SomeVoid AllTimed)
 
--- what is reported of all brackets and of whether some place is void: the first eight brackets beside their count, and what is said of the places
+-- what is reported of all brackets and of whether some place is void: the first eight brackets beside their count, and what is said of
+-- the places
 unfoldable pub reported : List Bracket → Bool → Crossings
 reported bs void =
     record {

@@ -1,4 +1,5 @@
--- `station` meets its contract: for any first j that is small and any spacing up to the stations' the sum and the product stay far within an i64.
+-- `station` meets its contract: for any first j that is small and any spacing up to the stations' the sum and the product stay far within
+-- an i64.
 use borrow.Author.Needs.{needs}
 use mathlib.Core.Path.{_≡_, ap, _∙_}
 use Prim.Native.Nat.{ℕ, _+_, _*_, _≤_, _<_}

@@ -1,5 +1,5 @@
--- `find_crossings` meets its contract: the invariant is `Passed`, all that is to be said of the stations below i; the measure is the number of stations that
--- are left.
+-- `find_crossings` meets its contract: the invariant is `Passed`, all that is to be said of the stations below i; the measure is the
+-- number of stations that are left.
 use mathlib.Core.Path.{sym, _∙_}
 use mathlib.Core.Logic.{⊎-elim}
 use Prim.Native.Nat.{_+_, _-_, _<_}

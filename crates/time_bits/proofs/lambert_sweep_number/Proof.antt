@@ -1,4 +1,5 @@
--- `lambert_sweep_number` meets its contract: what its calls ensure, put together. The sum is small, since a sweep lists eight crossings at most.
+-- `lambert_sweep_number` meets its contract: what its calls ensure, put together. The sum is small, since a sweep lists eight crossings
+-- at most.
 use Prim.Native.Nat.{ℕ, _≤_, _+_}
 use mathlib.Core.Path.{_≡_, sym, ap, subst, _∙_}
 use native.Mathlib.Omega.{arith}
