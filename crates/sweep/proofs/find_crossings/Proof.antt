@@ -2,7 +2,7 @@
 -- number of stations that are left.
 use mathlib.Core.Path.{sym, _∙_}
 use mathlib.Core.Logic.{⊎-elim}
-use Prim.Native.Nat.{_+_, _-_, _<_}
+use Prim.Native.Nat.{_+_, _-_, _≤_, _<_}
 use native.Mathlib.Omega.{arith}
 use borrow.Author.Tests.{le-leb, lt-leb}
 use lib.Arith.{lt-of-le-ne}
@@ -90,7 +90,8 @@ stations-again c =
     let sided = compared .before in
     let turn = sided .before in
     let inv = turn .before .stations .inv in
-    let within = turn .stations-test .taken in
+    let last = turn .before .before .last-station .result in
+    let within : turn .before .stations .i ≤ last = omega (arith, turn .stations-test .taken) in
     let high = sided .side-of-station .ensures in
     let void = c .is-unknown .ensures in
     let test = sym (compared .are-opposite .ensures) in
@@ -109,10 +110,15 @@ returns c =
     let looped = ended .before in
     let start = looped .before in
     let inv = looped .stations .inv in
+    let last = start .last-station .result in
     rw (c .walk-of .ensures, ← start .last-station .ensures)
     (⊎-elim
-    (λ w. done inv (lt-leb _ _ (w .left)) (w .left))
-    (λ w. too-many inv (w .1 .ensures) (le-leb _ _ (w .0 .taken)) (w .0 .taken) (w .4 .taken) (sym (w .2 .ensures) ∙ w .3 .taken))
+    (λ w.
+    let past : last < looped .stations .i = omega (arith, w .left) in
+    done inv (lt-leb _ _ past) past)
+    (λ w.
+    let within : looped .stations .i ≤ last = omega (arith, w .0 .taken) in
+    too-many inv (w .1 .ensures) (le-leb _ _ within) within (w .4 .taken) (sym (w .2 .ensures) ∙ w .3 .taken))
     (ended .stations-test .came))
 
 pub find-crossings-spec : {M : Type 1} → statement M
