@@ -60,7 +60,9 @@ sum-twice a k =
 
 pub up-same : (a : ℤ) (k : ℕ) → a +ℤ pos k ≡ a → k ≡ 0
 up-same a k e =
-    let f : pos k ≡ pos 0 = sym (+ℤ-idl (pos k)) ∙ ap (λ (z : ℤ). z +ℤ pos k) (sym (+ℤ-invl a)) ∙ +ℤ-assoc (negℤ a) a (pos k) ∙ ap (λ (z : ℤ). negℤ a +ℤ z) e ∙ +ℤ-invl a in
+    let there-and-back : pos k ≡ negℤ a +ℤ (a +ℤ pos k) =
+    sym (+ℤ-idl (pos k)) ∙ ap (λ (z : ℤ). z +ℤ pos k) (sym (+ℤ-invl a)) ∙ +ℤ-assoc (negℤ a) a (pos k) in
+    let f : pos k ≡ pos 0 = there-and-back ∙ ap (λ (z : ℤ). negℤ a +ℤ z) e ∙ +ℤ-invl a in
     cc
 
 pub up-less : (a : ℤ) (k : ℕ) → (a +ℤ pos k) -ℤ a ≡ pos k

@@ -113,7 +113,9 @@ module _ {a b : ℤ} {h : ℕ} (v : Interval a b h) where
           let n : ℕ = 20 - (h + 1) in
           let whole-step : bisectOf (withSide σ a low) (20 - h) h a (top a n) ≡ bisectOf (withSide σ a low) (suc n) h a (top a n) =
           ap (λ (k : ℕ). bisectOf (withSide σ a low) k h a (top a n)) rest in
-          rw (upper-is, whole-step, step a n (withSide σ a low) h, here, own-side σ mid, upper-half σ a low n (h + 1), at-middle σ a low n h, at-lower σ a low)
+          let by-definition = step a n (withSide σ a low) h in
+          let above = upper-half σ a low n (h + 1) in
+          rw (upper-is, whole-step, by-definition, here, own-side σ mid, above, at-middle σ a low n h, at-lower σ a low)
 
       pub at-void : isUnknown s ≡ true → record { lower = a; upper = b; halvings = h } ≡ bisectOf (withSide σ a low) (20 - h) h a b
       at-void e = sym (halves ∙ rw e)

@@ -61,7 +61,9 @@ agree σ τ (suc n) h a f =
     let lower : σ a ≡ τ a = subst (λ (z : ℤ). σ z ≡ τ z) (+ℤ-idr a) (f 0) in
     let here : σ (middle a n) ≡ τ (middle a n) = f (2 ^ n) in
     let in-lower : bisectOf σ n (h + 1) a (middle a n) ≡ bisectOf τ n (h + 1) a (middle a n) = agree σ τ n (h + 1) a f in
-    let above = agree σ τ n (h + 1) (middle a n) (λ d. subst (λ (z : ℤ). σ z ≡ τ z) (sym (+ℤ-assoc a (pos (2 ^ n)) (pos d))) (f (2 ^ n + d))) in
+    let from-middle : (d : ℕ) → σ (middle a n +ℤ pos d) ≡ τ (middle a n +ℤ pos d) =
+    λ d. subst (λ (z : ℤ). σ z ≡ τ z) (sym (+ℤ-assoc a (pos (2 ^ n)) (pos d))) (f (2 ^ n + d)) in
+    let above = agree σ τ n (h + 1) (middle a n) from-middle in
     let in-upper : bisectOf σ n (h + 1) (middle a n) (top a n) ≡ bisectOf τ n (h + 1) (middle a n) (top a n) =
     subst (λ (z : ℤ). bisectOf σ n (h + 1) (middle a n) z ≡ bisectOf τ n (h + 1) (middle a n) z) (up-twice a n) above in
     rw (step a n σ h, step a n τ h, in-lower, in-upper, lower, here)

@@ -33,7 +33,8 @@ use Rattle.crossing_laws.proofs.Corners.{none-below, below-exactly}
 abbrev pub FiniteAt : Search → ℤ → Type 0
 FiniteAt s k = (time : Float) × ((timeOf (s .triangle) k (s .revolutions) ≡ Timed time) × (finiteOf time ≡ true))
 
-finite-by : (s : Search) (k : ℤ) (p : Place) → timeOf (s .triangle) k (s .revolutions) ≡ p → isUnknown (sideOf p (s .wanted)) ≡ false → FiniteAt s k
+finite-by : (s : Search) (k : ℤ) (p : Place) → timeOf (s .triangle) k (s .revolutions) ≡ p →
+    isUnknown (sideOf p (s .wanted)) ≡ false → FiniteAt s k
 unfolding sideOf
 finite-by s k (Timed time) e h = (time, (e, timed-finite (s .triangle) k (s .revolutions) time e))
 finite-by s k Void e h = clash refl h

@@ -28,7 +28,8 @@ module _ (σ : ℤ → Side) (a b : ℤ) (initial : ℕ) where
     pub comes : Comes σ a b initial x (x +ℤ pos (2 ^ n)) h
 
   -- where it stops
-  stopping : (x : ℤ) (n h : ℕ) → Along x n h → (x +ℤ pos (2 ^ n) ≡ x +ℤ pos 1) ⊎ (isUnknown (σ (middleOf x (x +ℤ pos (2 ^ n)))) ≡ true) → stops σ x (x +ℤ pos (2 ^ n)) ≡ true →
+  stopping : (x : ℤ) (n h : ℕ) → Along x n h →
+      (x +ℤ pos (2 ^ n) ≡ x +ℤ pos 1) ⊎ (isUnknown (σ (middleOf x (x +ℤ pos (2 ^ n)))) ≡ true) → stops σ x (x +ℤ pos (2 ^ n)) ≡ true →
       IsBracket σ a b initial (record { lower = x; upper = x +ℤ pos (2 ^ n); halvings = h })
   stopping x n h v s e =
       let w : 20 - h ≡ n = omega (arith, v .left) in
@@ -55,7 +56,9 @@ module _ (σ : ℤ → Side) (a b : ℤ) (initial : ℕ) where
           fromLower = v .fromLower;
           lowerIs = v .lowerIs;
           toUpper = 2 ^ n + v .toUpper;
-          upperIs = v .upperIs ∙ ap (λ (z : ℤ). z +ℤ pos (v .toUpper)) (sym (up-twice x n)) ∙ +ℤ-assoc (middle x n) (pos (2 ^ n)) (pos (v .toUpper));
+          upperIs = v .upperIs
+              ∙ ap (λ (z : ℤ). z +ℤ pos (v .toUpper)) (sym (up-twice x n))
+              ∙ +ℤ-assoc (middle x n) (pos (2 ^ n)) (pos (v .toUpper));
           least = omega (arith, v .least);
           left = omega (arith, v .left);
           ends = o;
@@ -81,7 +84,8 @@ module _ (σ : ℤ → Side) (a b : ℤ) (initial : ℕ) where
         }
 
   -- one step of the definition: it stops at a void middle, else it goes on in the half that still crosses
-  choose : (x : ℤ) (n h : ℕ) (u o : Bool) (p q : Bracket) → Along x (suc n) h → isUnknown (σ (middle x n)) ≡ u → opposite (σ x) (σ (middle x n)) ≡ o →
+  choose : (x : ℤ) (n h : ℕ) (u o : Bool) (p q : Bracket) → Along x (suc n) h →
+      isUnknown (σ (middle x n)) ≡ u → opposite (σ x) (σ (middle x n)) ≡ o →
       (Along x n (h + 1) → IsBracket σ a b initial p) → (Along (middle x n) n (h + 1) → IsBracket σ a b initial q) →
       IsBracket σ a b initial (cond u (record { lower = x; upper = top x n; halvings = h }) (cond o p q))
   choose x n h true o p q v e d f g = stopping x (suc n) h v (inr (rw (middle-is x n) e)) (stops-is x n σ ∙ e)
@@ -93,13 +97,18 @@ module _ (σ : ℤ → Side) (a b : ℤ) (initial : ℕ) where
   unfolding bisectOf
   ends-in zero h x v = stopping x zero h v (inl refl) (rw (up-less x 1))
   ends-in (suc n) h x v =
-      subst (IsBracket σ a b initial) (sym (step x n σ h))
-      (choose x n h (isUnknown (σ (middle x n))) (opposite (σ x) (σ (middle x n))) (bisectOf σ n (h + 1) x (middle x n)) (bisectOf σ n (h + 1) (middle x n) (top x n)) v refl refl
-      (ends-in n (h + 1) x)
-      (λ w. subst (λ (z : ℤ). IsBracket σ a b initial (bisectOf σ n (h + 1) (middle x n) z)) (up-twice x n) (ends-in n (h + 1) (middle x n) w)))
+      let lower = bisectOf σ n (h + 1) x (middle x n) in
+      let upper = bisectOf σ n (h + 1) (middle x n) (top x n) in
+      let in-upper : Along (middle x n) n (h + 1) → IsBracket σ a b initial upper =
+      λ w.
+      subst (λ (z : ℤ). IsBracket σ a b initial (bisectOf σ n (h + 1) (middle x n) z)) (up-twice x n)
+      (ends-in n (h + 1) (middle x n) w) in
+      let chosen = choose x n h (isUnknown (σ (middle x n))) (opposite (σ x) (σ (middle x n))) lower upper v refl refl in
+      subst (IsBracket σ a b initial) (sym (step x n σ h)) (chosen (ends-in n (h + 1) x) in-upper)
 
 -- the bracket of a crossing is one, in any grid that rises
-pub bracket-holds : (σ : ℤ → Side) (g : Grid) → IsRising g → (i : ℕ) → crosses σ g i ≡ true → IsBracket σ (g .place i) (g .place (i + 1)) (g .halvings i) (bracketOf σ g i)
+pub bracket-holds : (σ : ℤ → Side) (g : Grid) → IsRising g → (i : ℕ) → crosses σ g i ≡ true →
+    IsBracket σ (g .place i) (g .place (i + 1)) (g .halvings i) (bracketOf σ g i)
 unfolding bracketOf crosses
 bracket-holds σ g r i e =
     rw (r .next i)
@@ -149,7 +158,9 @@ module _ (σ : ℤ → Side) (a : ℤ) (initial : ℕ) (few : initial ≤ 20) wh
     known = sym (stops-is x (20 - (h + 1)) σ) ∙ ap (stops σ x) (sym is-top) ∙ s
 
     next : bisectOf σ (20 - h) h x y
-        ≡ cond (opposite (σ x) (σ (middleOf x y))) (bisectOf σ (20 - (h + 1)) (h + 1) x (middleOf x y)) (bisectOf σ (20 - (h + 1)) (h + 1) (middleOf x y) y)
+        ≡ cond (opposite (σ x) (σ (middleOf x y)))
+        (bisectOf σ (20 - (h + 1)) (h + 1) x (middleOf x y))
+        (bisectOf σ (20 - (h + 1)) (h + 1) (middleOf x y) y)
     next = rw (is-middle, is-top) (ap (λ (k : ℕ). bisectOf σ k h x (top x (20 - (h + 1)))) rest ∙ step x (20 - (h + 1)) σ h ∙ rw known)
 
     lower-follows : opposite (σ x) (σ (middleOf x y)) ≡ true → Follows x (middleOf x y) (h + 1)
@@ -177,7 +188,8 @@ module _ (σ : ℤ → Side) (a : ℤ) (initial : ℕ) (few : initial ≤ 20) wh
   at-stop zero h x y e = refl
   at-stop (suc n) h x y e = rw e
 
-module _ (σ : ℤ → Side) (g : Grid) (r : IsRising g) (i : ℕ) (x y : ℤ) (h : ℕ) (c : Comes σ (g .place i) (g .place (i + 1)) (g .halvings i) x y h) where
+module _ (σ : ℤ → Side) (g : Grid) (r : IsRising g) (i : ℕ) (x y : ℤ) (h : ℕ)
+    (c : Comes σ (g .place i) (g .place (i + 1)) (g .halvings i) x y h) where
   moved : Comes σ (g .place i) (g .place i +ℤ pos (2 ^ (20 - g .halvings i))) (g .halvings i) x y h
   moved = subst (λ (z : ℤ). Comes σ (g .place i) z (g .halvings i) x y h) (r .next i) c
 
@@ -185,8 +197,9 @@ module _ (σ : ℤ → Side) (g : Grid) (r : IsRising g) (i : ℕ) (x y : ℤ) (
   pub only-one : stops σ x y ≡ true → bracketOf σ g i ≡ record { lower = x; upper = y; halvings = h }
   unfolding bracketOf
   only-one e =
-      rw (r .next i)
-      (follows σ (g .place i) (g .halvings i) (r .most i) x y h moved .goes ∙ at-stop σ (g .place i) (g .halvings i) (r .most i) (20 - h) h x y e)
+      let comes = follows σ (g .place i) (g .halvings i) (r .most i) x y h moved .goes in
+      let stays = at-stop σ (g .place i) (g .halvings i) (r .most i) (20 - h) h x y e in
+      rw (r .next i) (comes ∙ stays)
 
   -- every interval that the halving of a pair comes to has the width 2^(20−h); while it is wider than 1, its middle is halfway and
   -- strictly inside
@@ -197,5 +210,5 @@ module _ (σ : ℤ → Side) (g : Grid) (r : IsRising g) (i : ℕ) (x y : ℤ) (
   comes-middle l =
       let e : 20 - h ≡ suc (19 - h) = omega (arith, l) in
       let t : y ≡ top x (19 - h) = comes-width .1 ∙ ap (λ (k : ℕ). x +ℤ pos (2 ^ k)) e in
-      let m : middleOf x y ≡ middle x (19 - h) = ap (middleOf x) t ∙ middle-is x (19 - h) in
-      (m, t ∙ sym (up-twice x (19 - h)) ∙ ap (λ (z : ℤ). z +ℤ pos (2 ^ (19 - h))) (sym m))
+      let mid : middleOf x y ≡ middle x (19 - h) = ap (middleOf x) t ∙ middle-is x (19 - h) in
+      (mid, t ∙ sym (up-twice x (19 - h)) ∙ ap (λ (z : ℤ). z +ℤ pos (2 ^ (19 - h))) (sym mid))

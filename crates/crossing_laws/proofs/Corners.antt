@@ -98,21 +98,25 @@ module _ (τ : ℤ → Place) (w : Float) (g : Grid) where
   on-equal i h = not-below-exactly (τ (g .place i)) w .1 (h .0, (h .1 .0, equal-not-below (h .0) w (h .1 .1)))
 
   -- a station equal to T* on a slope makes one crossing, not two
-  pub rising-slope : (i : ℕ) → IsBelow i → IsEqual (i + 1) → IsAbove (i + 1 + 1) → (crosses (sides τ w) g i ≡ true) × (crosses (sides τ w) g (i + 1) ≡ false)
+  pub rising-slope : (i : ℕ) → IsBelow i → IsEqual (i + 1) → IsAbove (i + 1 + 1) →
+      (crosses (sides τ w) g i ≡ true) × (crosses (sides τ w) g (i + 1) ≡ false)
   unfolding crosses
   rising-slope i a b c = (rw (on-below i a, on-equal (i + 1) b), rw (on-equal (i + 1) b, on-above (i + 1 + 1) c))
 
-  pub falling-slope : (i : ℕ) → IsAbove i → IsEqual (i + 1) → IsBelow (i + 1 + 1) → (crosses (sides τ w) g i ≡ false) × (crosses (sides τ w) g (i + 1) ≡ true)
+  pub falling-slope : (i : ℕ) → IsAbove i → IsEqual (i + 1) → IsBelow (i + 1 + 1) →
+      (crosses (sides τ w) g i ≡ false) × (crosses (sides τ w) g (i + 1) ≡ true)
   unfolding crosses
   falling-slope i a b c = (rw (on-above i a, on-equal (i + 1) b), rw (on-equal (i + 1) b, on-below (i + 1 + 1) c))
 
   -- a dip that only touches T* makes none
-  pub touching-dip : (i : ℕ) → IsAbove i → IsEqual (i + 1) → IsAbove (i + 1 + 1) → (crosses (sides τ w) g i ≡ false) × (crosses (sides τ w) g (i + 1) ≡ false)
+  pub touching-dip : (i : ℕ) → IsAbove i → IsEqual (i + 1) → IsAbove (i + 1 + 1) →
+      (crosses (sides τ w) g i ≡ false) × (crosses (sides τ w) g (i + 1) ≡ false)
   unfolding crosses
   touching-dip i a b c = (rw (on-above i a, on-equal (i + 1) b), rw (on-equal (i + 1) b, on-above (i + 1 + 1) c))
 
   -- a single station equal to T* between two below makes two
-  pub equal-between : (i : ℕ) → IsBelow i → IsEqual (i + 1) → IsBelow (i + 1 + 1) → (crosses (sides τ w) g i ≡ true) × (crosses (sides τ w) g (i + 1) ≡ true)
+  pub equal-between : (i : ℕ) → IsBelow i → IsEqual (i + 1) → IsBelow (i + 1 + 1) →
+      (crosses (sides τ w) g i ≡ true) × (crosses (sides τ w) g (i + 1) ≡ true)
   unfolding crosses
   equal-between i a b c = (rw (on-below i a, on-equal (i + 1) b), rw (on-equal (i + 1) b, on-below (i + 1 + 1) c))
 

@@ -39,12 +39,17 @@ rising-snoc x (y ∷ ys) r f = (
 pub listed-up : (i n : ℕ) → Listed i (upTo n) → i < n
 unfolding upTo Listed
 listed-up i zero h = absurd h
-listed-up i (suc n) h = ⊎-elim (λ l. let k : i < n = listed-up i n l in omega (arith, k)) (λ e. omega (arith, e)) (listed-snoc i n (upTo n) h)
+listed-up i (suc n) h =
+    ⊎-elim (λ l. let k : i < n = listed-up i n l in omega (arith, k)) (λ e. omega (arith, e)) (listed-snoc i n (upTo n) h)
 
 pub up-listed : (i n : ℕ) → i < n → Listed i (upTo n)
 unfolding upTo Listed
 up-listed i zero h = absurd (omega arith)
-up-listed i (suc n) h = ⊎-elim (λ e. subst (λ (j : ℕ). Listed j (upTo n ++ (n ∷ []))) (sym e) (listed-last n (upTo n))) (λ l. listed-left i n (upTo n) (up-listed i n l)) (split i n h)
+up-listed i (suc n) h =
+    ⊎-elim
+    (λ e. subst (λ (j : ℕ). Listed j (upTo n ++ (n ∷ []))) (sym e) (listed-last n (upTo n)))
+    (λ l. listed-left i n (upTo n) (up-listed i n l))
+    (split i n h)
   where
     split : (a b : ℕ) → a < suc b → (a ≡ b) ⊎ (a < b)
     split a b k = eq-or-lt-of-le (omega arith)
@@ -57,7 +62,8 @@ rising-up (suc n) = rising-snoc n (upTo n) (rising-up n) (λ i h. listed-up i n 
 -- ---- those that pass
 
 module _ (p : ℕ → Bool) where
-  kept-by : (b : Bool) (i x : ℕ) (xs : List ℕ) → p x ≡ b → (Listed i (keep p xs) → Listed i xs × (p i ≡ true)) → Listed i (cond b (x ∷ keep p xs) (keep p xs)) → Listed i (x ∷ xs) × (p i ≡ true)
+  kept-by : (b : Bool) (i x : ℕ) (xs : List ℕ) → p x ≡ b → (Listed i (keep p xs) → Listed i xs × (p i ≡ true)) →
+      Listed i (cond b (x ∷ keep p xs) (keep p xs)) → Listed i (x ∷ xs) × (p i ≡ true)
   unfolding Listed
   kept-by true i x xs e f h = ⊎-elim (λ d. (inl d, ap p d ∙ e)) (λ l. (inr (f l .0), f l .1)) h
   kept-by false i x xs e f h = (inr (f h .0), f h .1)
@@ -67,7 +73,8 @@ module _ (p : ℕ → Bool) where
   kept i [] h = absurd h
   kept i (x ∷ xs) h = kept-by (p x) i x xs refl (kept i xs) h
 
-  keeps-by : (b : Bool) (i x : ℕ) (xs : List ℕ) → p x ≡ b → p i ≡ true → (Listed i xs → Listed i (keep p xs)) → Listed i (x ∷ xs) → Listed i (cond b (x ∷ keep p xs) (keep p xs))
+  keeps-by : (b : Bool) (i x : ℕ) (xs : List ℕ) → p x ≡ b → p i ≡ true → (Listed i xs → Listed i (keep p xs)) →
+      Listed i (x ∷ xs) → Listed i (cond b (x ∷ keep p xs) (keep p xs))
   unfolding Listed
   keeps-by true i x xs e y f h = ⊎-elim (λ d. inl d) (λ l. inr (f l)) h
   keeps-by false i x xs e y f h = ⊎-elim (λ d. absurd (let z : _≡_ {A = ℕ} 0 1 = cc (ap p d, e, y) in omega (arith, z))) (λ l. f l) h
@@ -77,7 +84,8 @@ module _ (p : ℕ → Bool) where
   keeps i [] y h = absurd h
   keeps i (x ∷ xs) y h = keeps-by (p x) i x xs refl y (keeps i xs y) h
 
-  rising-by : (b : Bool) (x : ℕ) (xs : List ℕ) → ((i : ℕ) → Listed i xs → x < i) → Rising (keep p xs) → Rising (cond b (x ∷ keep p xs) (keep p xs))
+  rising-by : (b : Bool) (x : ℕ) (xs : List ℕ) → ((i : ℕ) → Listed i xs → x < i) → Rising (keep p xs) →
+      Rising (cond b (x ∷ keep p xs) (keep p xs))
   unfolding Rising
   rising-by true x xs f r = ((λ i h. f i (kept i xs h .0)), r)
   rising-by false x xs f r = r
@@ -100,9 +108,11 @@ module _ (p : ℕ → Bool) where
   pub some-yes : (i : ℕ) (xs : List ℕ) → Listed i xs → p i ≡ true → some p xs ≡ true
   unfolding some Listed
   some-yes i [] h y = absurd h
-  some-yes i (x ∷ xs) h y = ⊎-elim (λ e. or-left (p x) (some p xs) (ap p (sym e) ∙ y)) (λ l. or-right (p x) (some p xs) (some-yes i xs l y)) h
+  some-yes i (x ∷ xs) h y =
+      ⊎-elim (λ e. or-left (p x) (some p xs) (ap p (sym e) ∙ y)) (λ l. or-right (p x) (some p xs) (some-yes i xs l y)) h
 
-  found-by : (b : Bool) (x : ℕ) (xs : List ℕ) → p x ≡ b → (some p xs ≡ true → (i : ℕ) × (Listed i xs × (p i ≡ true))) → b || some p xs ≡ true → (i : ℕ) × (Listed i (x ∷ xs) × (p i ≡ true))
+  found-by : (b : Bool) (x : ℕ) (xs : List ℕ) → p x ≡ b → (some p xs ≡ true → (i : ℕ) × (Listed i xs × (p i ≡ true))) →
+      b || some p xs ≡ true → (i : ℕ) × (Listed i (x ∷ xs) × (p i ≡ true))
   unfolding Listed
   found-by true x xs e f h = (x, (inl refl, e))
   found-by false x xs e f h = (f h .0, (inr (f h .1 .0), f h .1 .1))

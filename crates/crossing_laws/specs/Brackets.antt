@@ -15,9 +15,11 @@ use Rattle.bisection.specs.Halving.{middleOf, stops}
 pub data Comes (σ : ℤ → Side) (a b : ℤ) (initial : ℕ) : ℤ → ℤ → ℕ → Type 0 where
   start : Comes σ a b initial a b initial
   -- the middle is not on the lower end's side: it replaces the upper end
-  keeps-lower : {x y : ℤ} {h : ℕ} → Comes σ a b initial x y h → stops σ x y ≡ false → opposite (σ x) (σ (middleOf x y)) ≡ true → Comes σ a b initial x (middleOf x y) (h + 1)
+  keeps-lower : {x y : ℤ} {h : ℕ} → Comes σ a b initial x y h → stops σ x y ≡ false → opposite (σ x) (σ (middleOf x y)) ≡ true →
+      Comes σ a b initial x (middleOf x y) (h + 1)
   -- the middle is on the lower end's side, and replaces it
-  keeps-upper : {x y : ℤ} {h : ℕ} → Comes σ a b initial x y h → stops σ x y ≡ false → opposite (σ x) (σ (middleOf x y)) ≡ false → Comes σ a b initial (middleOf x y) y (h + 1)
+  keeps-upper : {x y : ℤ} {h : ℕ} → Comes σ a b initial x y h → stops σ x y ≡ false → opposite (σ x) (σ (middleOf x y)) ≡ false →
+      Comes σ a b initial (middleOf x y) y (h + 1)
 
 -- r is the bracket of the pair from a to b
 pub record IsBracket (σ : ℤ → Side) (a b : ℤ) (initial : ℕ) (r : Bracket) : Type 0 where

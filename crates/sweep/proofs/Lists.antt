@@ -65,18 +65,20 @@ eight-set bs b h =
 
 -- ---- what is reported
 
-pub no-ninth : (bs : List Bracket) (void : Bool) → length bs ≤ 8 → record { list = eight bs; count = length bs; walk = walkOf false void } ≡ reported bs void
+pub no-ninth : (bs : List Bracket) (void : Bool) → length bs ≤ 8 →
+    record { list = eight bs; count = length bs; walk = walkOf false void } ≡ reported bs void
 unfolding reported
 no-ninth bs void h =
-    let m : (reported bs void) .count ≡ length bs = omega arith in
-    rw (take-all 8 bs h, m, le-ltb 8 (length bs) h)
+    let count : (reported bs void) .count ≡ length bs = omega arith in
+    rw (take-all 8 bs h, count, le-ltb 8 (length bs) h)
 
-pub a-ninth : (bs rest : List Bracket) (b : Bracket) (u void : Bool) → length bs ≡ 8 → record { list = eight bs; count = 8; walk = walkOf true u } ≡ reported (bs ++ (b ∷ rest)) void
+pub a-ninth : (bs rest : List Bracket) (b : Bracket) (u void : Bool) → length bs ≡ 8 →
+    record { list = eight bs; count = 8; walk = walkOf true u } ≡ reported (bs ++ (b ∷ rest)) void
 unfolding reported
 a-ninth bs rest b u void h =
     let n : 8 < length (bs ++ (b ∷ rest)) = simp length-append (omega arith) in
-    let m : (reported (bs ++ (b ∷ rest)) void) .count ≡ 8 = omega arith in
-    rw (take-at bs (b ∷ rest) 8 h, m, lt-ltb 8 (length (bs ++ (b ∷ rest))) n)
+    let count : (reported (bs ++ (b ∷ rest)) void) .count ≡ 8 = omega arith in
+    rw (take-at bs (b ∷ rest) 8 h, count, lt-ltb 8 (length (bs ++ (b ∷ rest))) n)
 
 -- ---- places of any grid
 
@@ -101,12 +103,15 @@ module _ (σ : ℤ → Side) (g : Grid) where
       )
 
   -- the walk passed every station
-  pub all-passed : (last : ℕ) → length (brackets σ g last) ≤ 8 → record { list = eight (brackets σ g last); count = length (brackets σ g last); walk = walkOf false (someVoid σ g last) } ≡ sweepOf σ g last
+  pub all-passed : (last : ℕ) → length (brackets σ g last) ≤ 8 →
+      record { list = eight (brackets σ g last); count = length (brackets σ g last); walk = walkOf false (someVoid σ g last) }
+      ≡ sweepOf σ g last
   unfolding sweepOf
   all-passed last h = no-ninth (brackets σ g last) (someVoid σ g last) h
 
   -- it was left at the pair i, the ninth that crosses
-  pub left-at : (i last : ℕ) (u : Bool) → i < last → length (brackets σ g i) ≡ 8 → crosses σ g i ≡ true → record { list = eight (brackets σ g i); count = 8; walk = walkOf true u } ≡ sweepOf σ g last
+  pub left-at : (i last : ℕ) (u : Bool) → i < last → length (brackets σ g i) ≡ 8 → crosses σ g i ≡ true →
+      record { list = eight (brackets σ g i); count = 8; walk = walkOf true u } ≡ sweepOf σ g last
   unfolding sweepOf
   left-at i last u h e y =
       let j : last ≡ i + 1 + (last - (i + 1)) = omega arith in

@@ -73,6 +73,14 @@ module _ (t : ℕ) where
       let start = wider .before in
       c .side-at .ensures ∙ ap (sideAt (start .args .search)) (middle-read wider)
 
+  -- from the comparison of the two sides back to the test of the width
+  abbrev wider-than-one : bisect-lts.After-are-opposite (calls t) (bisect-at t) bisect.Post →
+      bisect-lts.Else1 (calls t) (bisect-at t) bisect.Post
+  wider-than-one c =
+      let timed = c .before in
+      let sided = timed .before .before in
+      sided .before
+
   sub-if1 : bisect-lts.Need-sub-if1 (calls t) (bisect-at t) bisect.Post
   sub-if1 c = width-fits (c .pre .1) (c .fits .a) (c .fits .b)
 
@@ -112,24 +120,24 @@ module _ (t : ℕ) where
 
   add-bisect : bisect-lts.Need-add-bisect (calls t) (bisect-at t) bisect.Post
   add-bisect c =
-      let wider = c .before .before .before .before .before in
-      omega (arith, wider .before .pre .1 .most)
+      let start = wider-than-one (c .before) .before in
+      omega (arith, start .pre .1 .most)
 
   bisect-requires : bisect-lts.Need-bisect-requires (calls t) (bisect-at t) bisect.Post
   bisect-requires c κs =
-      let wider = c .before .before .before .before .before in
+      let wider = wider-than-one (c .before) in
       let start = wider .before in
       let lower = lower-next (start .pre .1) (more wider) in
       (fewer wider, renamed (toZ-ofZ (start .fits .a)) (middle-read wider) lower)
 
   add-bisect-2 : bisect-lts.Need-add-bisect-2 (calls t) (bisect-at t) bisect.Post
   add-bisect-2 c =
-      let wider = c .before .before .before .before .before in
-      omega (arith, wider .before .pre .1 .most)
+      let start = wider-than-one (c .before) .before in
+      omega (arith, start .pre .1 .most)
 
   bisect-requires-2 : bisect-lts.Need-bisect-requires-2 (calls t) (bisect-at t) bisect.Post
   bisect-requires-2 c κs =
-      let wider = c .before .before .before .before .before in
+      let wider = wider-than-one (c .before) in
       let start = wider .before in
       let upper = upper-next (start .pre .1) (more wider) in
       (fewer wider, renamed (middle-read wider) (toZ-ofZ (start .fits .b)) upper)

@@ -54,21 +54,23 @@ bracket-of-requires c κs = tt
 
 mul-list : tie.Need-mul-list Inv-stations μ-stations
 mul-list c =
-    let sided = c .before .before .before .before in
-    let looped = sided .before .before in
+    let few = c .before in
+    let compared = few .before .before in
+    let looped = compared .before .before .before in
     omega (arith, looped .stations .inv .most)
 
 array-set-from-list : tie.Need-array-set-from-list Inv-stations μ-stations
 array-set-from-list c =
     let few = c .before in
-    let sided = few .before .before .before in
-    let looped = sided .before .before in
+    let compared = few .before .before in
+    let looped = compared .before .before .before in
     lt-of-le-ne (looped .stations .inv .most) (few .if2 .left)
 
 add-count : tie.Need-add-count Inv-stations μ-stations
 add-count c =
-    let sided = c .before .before .before .before in
-    let looped = sided .before .before in
+    let few = c .before in
+    let compared = few .before .before in
+    let looped = compared .before .before .before in
     omega (arith, looped .stations .inv .most)
 
 is-unknown-requires : tie.Need-is-unknown-requires Inv-stations μ-stations
@@ -76,12 +78,14 @@ is-unknown-requires c κs = tt
 
 add-i : tie.Need-add-i Inv-stations μ-stations
 add-i c =
-    let sided = c .before .before .before in
+    let compared = c .before .before in
+    let sided = compared .before in
     omega (arith, small (sided .before))
 
 stations-less : tie.Need-stations-less Inv-stations μ-stations
 stations-less c =
-    let sided = c .before .before .before in
+    let compared = c .before .before in
+    let sided = compared .before in
     omega (arith, sided .before .stations-test .taken)
 
 stations-again : tie.Need-stations-again Inv-stations μ-stations
