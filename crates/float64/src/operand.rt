@@ -12,7 +12,8 @@ pub(crate) struct Operand {
 // with the exponent's field 0 is subnormal: its digits are the count itself.
 pub(crate) fn operand_of(b: u64) -> Operand
     requires { ⌜ (0 < b) × (b < 0x7FF0_0000_0000_0000) ⌝ }
-    ensures { λ r. ⌜ Scaled (unitsOfBits b) (r .a) (r .k) × (r .k ≤ 1049) ⌝ }
+    ensures scaled { λ r. ⌜ Scaled (unitsOfBits b) (r .a) (r .k) ⌝ }
+    ensures small { λ r. ⌜ r .k ≤ 1049 ⌝ }
 {
     let field = b / 0x0010_0000_0000_0000;
     if field == 0 {
@@ -28,7 +29,8 @@ pub(crate) fn operand_of(b: u64) -> Operand
 // digit more, so that what is left out is a power of four.
 fn scaled(digits: u64, length: u64) -> Operand
     requires { ⌜ (digits < 2 ^ 53) × (length ≤ 2098) ⌝ }
-    ensures { λ r. ⌜ ((n : ℕ) → Normalised n digits length → Scaled n (r .a) (r .k)) × (r .k ≤ 1049) ⌝ }
+    ensures scaled { λ r. ⌜ ((n : ℕ) → Normalised n digits length → Scaled n (r .a) (r .k)) ⌝ }
+    ensures small { λ r. ⌜ r .k ≤ 1049 ⌝ }
 {
     Operand {
         a: digits << (1 - length % 2),
