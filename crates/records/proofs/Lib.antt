@@ -2,3 +2,4 @@ pub mod Sizes
 pub mod Tables
 pub mod RoundTrip
 pub mod Answers
+pub mod SingleFields

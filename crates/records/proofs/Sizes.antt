@@ -1,10 +1,12 @@
--- The length of each record's bytes.
+-- The length of each record's bytes. A record of an outcome is at least as long as a conflict, and there is room for it where there is room
+-- for the longest answer (`refusal-room`, `answer-room`).
 use mathlib.Core.Path.{_≡_}
 use mathlib.Core.List.{[], _∷_}
-use Prim.Native.Nat.{ℕ}
+use Prim.Native.Nat.{ℕ, _+_, _*_, _≤_}
+use native.Mathlib.Omega.{arith}
 use lib.ListN.{length, length-append}
-use Rattle.records.specs.Layout.{encode, questionFields, headFields, entryFields, conflictFields, questionSize, headSize, entrySize}
-use Rattle.records.specs.Layout.{refusalSize, conflictSize}
+use Rattle.records.specs.Layout.{encode, questionFields, headFields, entryFields, conflictFields}
+use Rattle.records.specs.Layout.{questionSize, headSize, entrySize, refusalSize, answerSize, mostEntries, answerRoom, conflictSize}
 use Rattle.records.specs.Records.{questionBytes, headBytes, entryBytes, refusalHeadOf, refusalBytes, conflictBytes}
 use Rattle.records.specs.declared.Question.{Question}
 use Rattle.records.specs.declared.Head.{Head}
@@ -30,3 +32,11 @@ refusal-length job revision number = head-length (refusalHeadOf job revision num
 pub conflict-length : (job revision : ℕ) → length (conflictBytes job revision) ≡ conflictSize
 unfolding conflictBytes encode conflictFields
 conflict-length job revision = simp (length-append, bytes-length)
+
+-- ---- sizes beside each other
+
+pub refusal-room : (number : ℕ) → (conflictSize ≤ refusalSize number) × (refusalSize number ≤ answerRoom)
+refusal-room number = (omega arith, omega arith)
+
+pub answer-room : (n : ℕ) → n ≤ mostEntries → (conflictSize ≤ answerSize n) × (answerSize n ≤ answerRoom)
+answer-room n h = (omega arith, omega arith)

@@ -6,34 +6,35 @@ use mathlib.Core.Logic.{⊎-elim}
 use native.Mathlib.Omega.{arith}
 use borrow.Author.Needs.{needs}
 use borrow.Author.Tests.{le-leb, lt-leb, ltb-true, ltb-false}
+use Rattle.records.specs.Layout.{mostEntries}
 use Rattle.outcomes.specs.Outcomes.{isBetween, isAnswer}
 use Rattle.outcomes.proofs.is_answer.Statement.{statement}
 use Rattle.outcomes.proofs.is_answer.Tie as tie
 
-u16-at-requires : tie.Need-u16-at-requires
-u16-at-requires c κs = search needs
+number-of-requires : tie.Need-number-of-requires
+number-of-requires c κs = search needs
 
-cast-n : tie.Need-cast-n
-cast-n c = search needs
+cast-if2 : tie.Need-cast-if2
+cast-if2 c = search needs
 
 -- both ways to the branch are outside the range
-outside : (c : tie.Joined1) → isBetween 1 8 (c .before .u16-at .result) ≡ false
+outside : (c : tie.Joined1) → isBetween 1 mostEntries (c .before .number-of .result) ≡ false
 outside c =
-    let n = c .before .u16-at .result in
-    ⊎-elim (λ w. rw (lt-leb 1 n (omega arith))) (λ w. rw (lt-leb n 8 (omega (arith, ltb-true _ n (w .1 .taken))), and-false)) (c .if1 .came)
+    let n = c .before .number-of .result in
+    ⊎-elim
+    (λ w. rw (lt-leb 1 n (omega arith)))
+    (λ w. rw (lt-leb n mostEntries (omega (arith, ltb-true _ n (w .1 .taken))), and-false))
+    (c .if1 .came)
 
 returns : tie.Need-returns
 unfolding isAnswer
-returns c = simp (← c .before .u16-at .ensures, outside c, and-false)
+returns c = simp (← c .before .number-of .ensures, outside c, and-false)
 
-u16-at-requires-2 : tie.Need-u16-at-requires-2
-u16-at-requires-2 c κs = search needs
+kind-of-requires : tie.Need-kind-of-requires
+kind-of-requires c κs = search needs
 
-mul-is-sized : tie.Need-mul-is-sized
-mul-is-sized c = search needs
-
-add-is-sized : tie.Need-add-is-sized
-add-is-sized c = search needs
+answer-size-requires : tie.Need-answer-size-requires
+answer-size-requires c κs = search needs
 
 is-sized-requires : tie.Need-is-sized-requires
 is-sized-requires c κs = search needs
@@ -42,25 +43,37 @@ name-ends-requires : tie.Need-name-ends-requires
 name-ends-requires c κs = search needs
 
 -- past the branch n is in the range
-inside : (n : ℕ) → 1 ≤ n → n ≤ 8 → isBetween 1 8 n ≡ true
-inside n l h = rw (le-leb 1 n l, le-leb n 8 h)
+inside : (n : ℕ) → 1 ≤ n → n ≤ mostEntries → isBetween 1 mostEntries n ≡ true
+inside n l h = rw (le-leb 1 n l, le-leb n mostEntries h)
 
 returns-2 : tie.Need-returns-2
 unfolding isAnswer
 returns-2 c =
-    let read = c .before .before .before .before .before .u16-at in
-    simp (← read .ensures, inside (read .result) (omega arith) (omega (arith, ltb-false _ (read .result) (c .before .before .before .if2 .left))), and-true, c .name-ends .ensures, c .before .is-sized .ensures, c .before .before .u16-at2 .ensures)
+    let sized = c .before in
+    let size = sized .before in
+    let kind = size .before in
+    let few = kind .before in
+    let read = few .before .before .number-of in
+    let between = inside (read .result) (omega arith) (omega (arith, ltb-false _ (read .result) (few .if2 .left))) in
+    simp (
+      ← read .ensures,
+      between,
+      and-true,
+      c .name-ends .ensures,
+      sized .is-sized .ensures,
+      size .answer-size .ensures,
+      kind .kind-of .ensures,
+    )
 
 pub is-answer-spec : {M : Type 1} → statement M
 is-answer-spec =
     tie.close
     (tie.spec
-    u16-at-requires
-    cast-n
+    number-of-requires
+    cast-if2
     returns
-    u16-at-requires-2
-    mul-is-sized
-    add-is-sized
+    kind-of-requires
+    answer-size-requires
     is-sized-requires
     name-ends-requires
     returns-2)

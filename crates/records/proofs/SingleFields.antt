@@ -1,0 +1,107 @@
+-- Single fields of what is written are read back, whatever stands in the other fields: of a head and of whatever begins with
+-- one, of a refusal, of an answer, of an entry's chosen end, and of a conflict. Each is the law of one number, `number-back`, with the
+-- fields before it and those after it.
+use mathlib.Core.Path.{_≡_, refl, sym, ap, _∙_}
+use mathlib.Core.List.{List, [], _∷_, _++_, append-assoc}
+use Prim.Native.Nat.{ℕ, _+_, _*_, _^_, _≤_, _<_}
+use native.Mathlib.Omega.{arith}
+use lib.ListN.{length, drop, length-append}
+use Rattle.little_endian.specs.Bytes.{bytesOf, numberAt, signedBits}
+use Rattle.little_endian.proofs.RoundTrip.{number-back}
+use Rattle.records.specs.Layout.{CHOSEN, encode, headFields, entryFields, conflictFields, answerKind, refusalKind, conflictKind}
+use Rattle.records.specs.Layout.{refusalSize, answerSize, conflictSize, mostEntries, lengthFor}
+use Rattle.records.specs.Layout.{kindOf, jobOf, revisionOf, numberOf, sizeOf}
+use Rattle.records.specs.Records.{headBytes, refusalHeadOf, refusalBytes, answerHeadOf, entriesBytes, answerBytes}
+use Rattle.records.specs.Records.{entryNumbers, entryBytes, conflictBytes}
+use Rattle.records.specs.declared.Head.{Head}
+use Rattle.records.specs.declared.Entry.{Entry}
+
+-- ---- a head, whatever follows it
+
+module _ (h : Head) (rest : List ℕ) where
+  abbrev from-job : List ℕ
+  from-job = bytesOf 4 (h .job) ++ (bytesOf 4 (h .revision) ++ (bytesOf 2 (h .number) ++ rest))
+
+  head-size : h .length < 2 ^ 32 → sizeOf (headBytes h ++ rest) ≡ h .length + 4
+  unfolding headBytes encode headFields bytesOf
+  head-size l = ap (λ (n : ℕ). n + 4) (number-back 4 (h .length) [] (bytesOf 2 (h .kind) ++ from-job) l)
+
+  head-kind : h .kind < 2 ^ 16 → kindOf (headBytes h ++ rest) ≡ h .kind
+  unfolding headBytes encode headFields bytesOf
+  head-kind l = number-back 2 (h .kind) (bytesOf 4 (h .length)) from-job l
+
+  head-number : h .number < 2 ^ 16 → numberOf (headBytes h ++ rest) ≡ h .number
+  unfolding headBytes encode headFields bytesOf
+  head-number l =
+      let before = bytesOf 4 (h .length) ++ (bytesOf 2 (h .kind) ++ (bytesOf 4 (h .job) ++ bytesOf 4 (h .revision))) in
+      number-back 2 (h .number) before rest l
+
+-- ---- a refusal
+
+module _ (job revision number : ℕ) where
+  abbrev refusal-head : Head
+  refusal-head = refusalHeadOf job revision number
+
+  pub refusal-size : sizeOf (refusalBytes job revision number) ≡ refusalSize number
+  unfolding refusalBytes refusalHeadOf headBytes encode headFields bytesOf
+  refusal-size = head-size refusal-head [] (omega arith)
+
+  pub refusal-kind : kindOf (refusalBytes job revision number) ≡ refusalKind
+  unfolding refusalBytes refusalHeadOf headBytes encode headFields bytesOf
+  refusal-kind = head-kind refusal-head [] (omega arith)
+
+  pub refusal-number : number < 2 ^ 16 → numberOf (refusalBytes job revision number) ≡ number
+  unfolding refusalBytes refusalHeadOf headBytes encode headFields bytesOf
+  refusal-number l = head-number refusal-head [] l
+
+-- ---- an answer
+
+module _ (job revision : ℕ) (es : List Entry) (few : length es ≤ mostEntries) where
+  abbrev head-of : Head
+  head-of = answerHeadOf job revision (length es)
+
+  pub answer-size : sizeOf (answerBytes job revision es) ≡ answerSize (length es)
+  unfolding answerBytes answerHeadOf
+  answer-size = head-size head-of (entriesBytes es) (omega arith) ∙ omega arith
+
+  pub answer-kind : kindOf (answerBytes job revision es) ≡ answerKind
+  unfolding answerBytes answerHeadOf
+  answer-kind = head-kind head-of (entriesBytes es) (omega arith)
+
+  pub answer-number : numberOf (answerBytes job revision es) ≡ length es
+  unfolding answerBytes answerHeadOf
+  answer-number = head-number head-of (entriesBytes es) (omega arith)
+
+-- the chosen end of an entry, whatever stands before and after it
+pub chosen-back : (before : List ℕ) (e : Entry) (after : List ℕ) → e .chosen < 2 ^ 32 →
+    numberAt (CHOSEN .width) (before ++ (entryBytes e ++ after)) (length before + CHOSEN .offset) ≡ e .chosen
+unfolding entryBytes encode entryFields bytesOf
+chosen-back before e after h =
+    let start = bytesOf 8 (signedBits (e .lower)) ++ bytesOf 4 (e .halvings) in
+    let rest = encode (drop 3 entryFields) (drop 3 (entryNumbers e)) ++ after in
+    let whole = start ++ (bytesOf 4 (e .chosen) ++ rest) in
+    ap (λ (n : ℕ). numberAt 4 (before ++ whole) n) (sym (length-append before start))
+    ∙ ap (λ (l : List ℕ). numberAt 4 l (length (before ++ start))) (sym (append-assoc before start (bytesOf 4 (e .chosen) ++ rest)))
+    ∙ number-back 4 (e .chosen) (before ++ start) rest h
+
+-- ---- a conflict
+
+module _ (job revision : ℕ) where
+  abbrev conflict-start : List ℕ
+  conflict-start = bytesOf 4 (lengthFor conflictSize) ++ bytesOf 2 conflictKind
+
+  pub conflict-size : sizeOf (conflictBytes job revision) ≡ conflictSize
+  unfolding conflictBytes conflictFields encode bytesOf numberAt
+  conflict-size = refl
+
+  pub conflict-kind : kindOf (conflictBytes job revision) ≡ conflictKind
+  unfolding conflictBytes conflictFields encode bytesOf numberAt
+  conflict-kind = refl
+
+  pub conflict-job : job < 2 ^ 32 → jobOf (conflictBytes job revision) ≡ job
+  unfolding conflictBytes conflictFields encode bytesOf
+  conflict-job h = number-back 4 job conflict-start (bytesOf 4 revision ++ []) h
+
+  pub conflict-revision : revision < 2 ^ 32 → revisionOf (conflictBytes job revision) ≡ revision
+  unfolding conflictBytes conflictFields encode bytesOf
+  conflict-revision h = number-back 4 revision (conflict-start ++ bytesOf 4 job) [] h
