@@ -1,39 +1,27 @@
 -- The slots of a board: what one holds, and its bytes (02, A1). Definitions only.
-use Prim.Native.Nat.{ℕ, _+_}
+use Prim.Native.Nat.{ℕ}
 use mathlib.Core.Bool.{Bool, true, false, _&&_, _||_}
 use mathlib.Core.List.{List, [], _∷_, _++_}
 use lib.Dec.{eqb}
 use lib.ListN.{take, drop, replicate}
-use Rattle.records.specs.Layout.{Field, LENGTH, KIND, JOB, REVISION, answerRoom, valueOf, encode}
+use Rattle.records.specs.Layout.{answerRoom, conflictKind, conflictSize, kindOf, sizeOf}
 use Rattle.outcomes.specs.Outcomes.{isSized, isOutcome}
 
 -- some bytes and then zeros, up to a size; cut there where the bytes are more
 unfoldable pub padded : ℕ → List ℕ → List ℕ
 padded size bytes = take size (bytes ++ replicate size 0)
 
--- the slot that holds some bytes: 528 bytes, room for the longest answer
+-- the slot that holds some bytes: room for the longest answer
 abbrev pub slotOf : List ℕ → List ℕ
 slotOf bytes = padded answerRoom bytes
 
--- how many bytes stand in a slot by the length that they begin with, and these bytes
-abbrev pub sizeIn : List ℕ → ℕ
-sizeIn s = valueOf LENGTH s + 4
-
+-- the bytes that stand in a slot, by the length that they begin with
 unfoldable pub contentOf : List ℕ → List ℕ
-contentOf s = take (sizeIn s) s
+contentOf s = take (sizeOf s) s
 
--- a conflict of a job at a revision: length 10, kind 4, job and revision
-unfoldable pub conflictFields : List Field
-conflictFields = LENGTH ∷ KIND ∷ JOB ∷ REVISION ∷ []
-
-unfoldable pub conflictBytes : ℕ → ℕ → List ℕ
-conflictBytes job revision = encode conflictFields (10 ∷ 4 ∷ job ∷ revision ∷ [])
-
-abbrev pub conflictSize : ℕ
-conflictSize = 14
-
+-- a conflict, of whatever job and revision
 unfoldable pub isConflict : List ℕ → Bool
-isConflict s = eqb (valueOf KIND s) 4 && isSized s conflictSize
+isConflict s = eqb (kindOf s) conflictKind && isSized s conflictSize
 
 -- what a slot may hold: an outcome that is not malformed, or a conflict
 unfoldable pub isHeld : List ℕ → Bool
@@ -46,7 +34,7 @@ isZero (b ∷ bs) = eqb b 0 && isZero bs
 
 -- a filled slot: what it may hold, and then zeros
 unfoldable pub isFilled : List ℕ → Bool
-isFilled s = isHeld (contentOf s) && isZero (drop (sizeIn s) s)
+isFilled s = isHeld (contentOf s) && isZero (drop (sizeOf s) s)
 
 -- whether bytes are the same
 unfoldable pub sameBytes : List ℕ → List ℕ → Bool

@@ -2,20 +2,20 @@
 ghost use mathlib.Core.Path.{_≡_};
 ghost use Prim.Native.Nat.{min};
 ghost use lib.ListN.{length};
-ghost use Rattle.slots.specs.Slots.{padded, sizeIn, conflictBytes, isConflict, isHeld, isFilled};
+ghost use Rattle.records.specs.Layout.{sizeOf};
+ghost use Rattle.records.specs.Records.{conflictBytes};
+ghost use Rattle.slots.specs.Slots.{padded, isConflict, isHeld, isFilled};
 
 mod bytes;
 
 use bytes::byte_at;
 pub use bytes::is_zero;
 pub use bytes::same_bytes;
-use little_endian::u16_at;
-use little_endian::u32_at;
-
-// The size of a conflict, and the widths of its fields.
-const CONFLICT_SIZE: usize = 14;
-
-const WIDTHS: [usize; 18] = [4, 2, 4, 4, 0, 0, 0, 0, 0, 0, 0, 0, 0, 0, 0, 0, 0, 0];
+use records::CONFLICT_KIND;
+use records::CONFLICT_SIZE;
+use records::kind_of;
+use records::size_of;
+use records::write_conflict;
 
 // Whether a slot holds an outcome or a conflict, and then zeros.
 pub fn is_filled(slot: &[u8]) -> bool
@@ -27,9 +27,9 @@ pub fn is_filled(slot: &[u8]) -> bool
 
 // How many bytes stand in a slot by the length that they begin with; no more than it has.
 pub fn content_size(slot: &[u8]) -> usize
-    ensures { λ r. ⌜ r ≡ min (sizeIn (now (slot .entry))) (length (now (slot .entry))) ⌝ }
+    ensures { λ r. ⌜ r ≡ min (sizeOf (now (slot .entry))) (length (now (slot .entry))) ⌝ }
 {
-    let size = u32_at(slot, 0) as usize + 4;
+    let size = size_of(slot);
     if size < slot.len() { size } else { slot.len() }
 }
 
@@ -42,7 +42,7 @@ fn is_held(s: &[u8]) -> bool
 fn is_conflict(s: &[u8]) -> bool
     ensures { λ r. ⌜ r ≡ isConflict (now (s .entry)) ⌝ }
 {
-    (u16_at(s, 4) == 4) & outcomes::is_sized(s, CONFLICT_SIZE)
+    (kind_of(s) == CONFLICT_KIND) & outcomes::is_sized(s, CONFLICT_SIZE)
 }
 
 // Fills a slot with some bytes and then zeros.
@@ -61,26 +61,6 @@ pub fn fill_conflict(slot: &mut [u8], job: u32, revision: u32)
     ensures { λ _. ⌜ now (slot .exit) ≡ padded (length (now (slot .entry))) (conflictBytes job revision) ⌝ }
 {
     let mut conflict = [0u8; CONFLICT_SIZE];
-    let values = [
-        10,
-        4,
-        job as u64,
-        revision as u64,
-        0,
-        0,
-        0,
-        0,
-        0,
-        0,
-        0,
-        0,
-        0,
-        0,
-        0,
-        0,
-        0,
-        0,
-    ];
-    little_endian::put_numbers(&mut conflict, WIDTHS, values);
+    write_conflict(&mut conflict, job, revision);
     fill(slot, &conflict);
 }

@@ -1,19 +1,31 @@
--- `fill_conflict` meets its contract: the numbers by the table of widths are the conflict's bytes, and they take the whole array, so that nothing of it is left under them.
-use mathlib.Core.Path.{ap, _∙_}
-use lib.ListN.{length}
-use Rattle.little_endian.specs.Bytes.{bytesOf, hasRoom, written}
-use Rattle.little_endian.specs.Tables.{packed}
-use Rattle.records.specs.Layout.{encode}
-use Rattle.slots.specs.Slots.{padded, conflictFields, conflictBytes}
+-- `fill_conflict` meets its contract: the conflict's bytes take the whole array, so that nothing of it is left under them.
+use mathlib.Core.Path.{_≡_, sym, ap, _∙_}
+use mathlib.Core.List.{List, append-nil}
+use Prim.Native.Nat.{ℕ, _≤_}
+use native.Mathlib.Omega.{arith}
 use borrow.Author.Needs.{needs}
+use borrow.Author.Tests.{le-leb}
+use lib.ListN.{length, replicate, drop-of-length-le}
+use Rattle.little_endian.specs.Bytes.{hasRoom, written}
+use Rattle.records.specs.Layout.{conflictSize}
+use Rattle.records.specs.Records.{conflictBytes}
+use Rattle.records.proofs.Sizes.{conflict-length}
+use Rattle.slots.specs.Slots.{padded}
 use Rattle.slots.proofs.fill_conflict.Statement.{statement}
 use Rattle.slots.proofs.fill_conflict.Tie as tie
 
-slice-aggregate-put-numbers : tie.Need-slice-aggregate-put-numbers
-slice-aggregate-put-numbers c = search needs
+-- bytes written over as many others are the whole
+all-written : (buffer bytes : List ℕ) → length buffer ≡ length bytes → written buffer bytes ≡ bytes
+unfolding written hasRoom
+all-written buffer bytes e =
+    let whole : length buffer ≤ length bytes = omega arith in
+    rw (le-leb (length bytes) (length buffer) (omega arith), drop-of-length-le buffer whole) (append-nil bytes)
 
-put-numbers-requires : tie.Need-put-numbers-requires
-put-numbers-requires c κs = search needs
+slice-aggregate-write-conflict : tie.Need-slice-aggregate-write-conflict
+slice-aggregate-write-conflict c = search needs
+
+write-conflict-requires : tie.Need-write-conflict-requires
+write-conflict-requires c κs = search needs
 
 slice-aggregate-fill : tie.Need-slice-aggregate-fill
 slice-aggregate-fill c = search needs
@@ -25,17 +37,19 @@ same-length : tie.Need-same-length
 same-length c = search needs
 
 returns : tie.Need-returns
-unfolding conflictBytes encode conflictFields written hasRoom packed bytesOf
 returns c =
     let put = c .before .before .before .before .before .before in
-    c .before .before .fill .ensures ∙ ap (padded (length (put .before .before .before .args .slot .now))) (put .put-numbers .ensures .1)
+    let a = put .before .before .before .args in
+    let bytes = conflictBytes (a .job) (a .revision) in
+    let whole = all-written (replicate {A = ℕ} conflictSize 0) bytes (sym (conflict-length (a .job) (a .revision))) in
+    c .before .before .fill .ensures ∙ ap (padded (length (a .slot .now))) (put .write-conflict .ensures .1 ∙ whole)
 
 pub fill-conflict-spec : {M : Type 1} → statement M
 fill-conflict-spec =
     tie.close
     (tie.spec
-    slice-aggregate-put-numbers
-    put-numbers-requires
+    slice-aggregate-write-conflict
+    write-conflict-requires
     slice-aggregate-fill
     fill-requires
     same-length

@@ -6,7 +6,8 @@ use native.Mathlib.Omega.{arith}
 use borrow.Author.Needs.{needs}
 use lib.ListN.{length, drop, length-drop}
 use lib.Seq.{length-take-le, take-all}
-use Rattle.slots.specs.Slots.{sizeIn, contentOf, isZero, isFilled}
+use Rattle.records.specs.Layout.{sizeOf}
+use Rattle.slots.specs.Slots.{contentOf, isZero, isFilled}
 use Rattle.little_endian.proofs.Cuts.{take-cut, drop-cut}
 use Rattle.slots.proofs.is_filled.Statement.{statement}
 use Rattle.slots.proofs.is_filled.Tie as tie
@@ -17,7 +18,7 @@ content-size-requires c κs = search needs
 slice-aggregate-is-held : tie.Need-slice-aggregate-is-held
 slice-aggregate-is-held c =
     let s = c .before .before .before .args .slot .now in
-    sym (length-take-le (c .before .content-size .result) s (omega (arith, c .before .content-size .ensures, min-le-right (sizeIn s) (length s))))
+    sym (length-take-le (c .before .content-size .result) s (omega (arith, c .before .content-size .ensures, min-le-right (sizeOf s) (length s))))
 
 is-held-requires : tie.Need-is-held-requires
 is-held-requires c κs = search needs
@@ -39,14 +40,14 @@ unfolding isFilled contentOf
 returns c =
     let s = c .before .before .before .before .before .before .before .args .slot .now in
     let size = c .before .before .before .before .before .content-size in
-    rw (← take-cut (sizeIn s) s, ← drop-cut (sizeIn s) s, ← size .ensures, ← c .before .before .before .is-held .ensures, c .before .before .if1 .taken)
+    rw (← take-cut (sizeOf s) s, ← drop-cut (sizeOf s) s, ← size .ensures, ← c .before .before .before .is-held .ensures, c .before .before .if1 .taken)
     (c .is-zero .ensures ∙ ap isZero (take-all (length s - size .result) (drop (size .result) s) (simp length-drop (omega arith))))
 
 returns-2 : tie.Need-returns-2
 unfolding isFilled contentOf
 returns-2 c =
     let s = c .before .before .before .before .before .args .slot .now in
-    rw (← take-cut (sizeIn s) s, ← c .before .before .before .content-size .ensures, ← c .before .is-held .ensures, c .if1 .left)
+    rw (← take-cut (sizeOf s) s, ← c .before .before .before .content-size .ensures, ← c .before .is-held .ensures, c .if1 .left)
 
 pub is-filled-spec : {M : Type 1} → statement M
 is-filled-spec =
