@@ -9,8 +9,7 @@ use borrow.Author.Tests.{ltb-true, lt-ltb, eqb-true, eq-eqb}
 use lib.Dec.{ltb, eqb}
 use lib.ListN.{length, take, drop, replicate, length-append, length-drop, length-replicate, take-append-drop, replicate-append-replicate}
 use lib.Seq.{take-all, take-at, drop-at, take-append-le, take-append-add, length-take-le}
-use Rattle.records.specs.Layout.{answerRoom}
-use Rattle.outcomes.specs.Outcomes.{jobOf}
+use Rattle.records.specs.Layout.{answerRoom, jobOf}
 use Rattle.slots.specs.Slots.{padded, slotOf, contentOf, isFilled, isZero}
 use Rattle.slots.proofs.Padding.{padded-length}
 use Rattle.slots.proofs.Zeros.{both, zero-is, zeros-zero, zero-append}
@@ -89,7 +88,8 @@ told (suc n) above b e h = by (λ job f. told n job (drop answerRoom b) (omega (
     held : Bool → List (List ℕ)
     held z = cond z [] (contentOf slot ∷ heldIn n rest)
 
-    by : ((job : ℕ) → inOrder n job rest ≡ true → Told n job rest) → (z : Bool) → isZero b ≡ z → z || (isFilled slot && ltb above (jobOf slot) && inOrder n (jobOf slot) rest) ≡ true → Told (suc n) above b
+    by : ((job : ℕ) → inOrder n job rest ≡ true → Told n job rest) → (z : Bool) → isZero b ≡ z →
+        z || (isFilled slot && ltb above (jobOf slot) && inOrder n (jobOf slot) rest) ≡ true → Told (suc n) above b
     by below true z f =
         let these : heldIn (suc n) b ≡ [] = ap held z in
         record {
@@ -108,7 +108,11 @@ told (suc n) above b e h = by (λ job f. told n job (drop answerRoom b) (omega (
         record {
           rising = rw these (next low (content-held slot (first .0)) (rw (← job) at (more .rising)));
           few = rw these (omega (arith, more .few));
-          bytes = rw these (sym (take-append-drop answerRoom b) ∙ ap (λ (l : List ℕ). l ++ rest) (slot-back slot (first .0) size) ∙ ap (λ (l : List ℕ). slotOf (contentOf slot) ++ l) (more .bytes) ∙ sym (slots-next n (contentOf slot) (heldIn n rest)));
+          bytes = rw these
+              (sym (take-append-drop answerRoom b)
+              ∙ ap (λ (l : List ℕ). l ++ rest) (slot-back slot (first .0) size)
+              ∙ ap (λ (l : List ℕ). slotOf (contentOf slot) ++ l) (more .bytes)
+              ∙ sym (slots-next n (contentOf slot) (heldIn n rest)));
         }
 
 pub board-held : (b : List ℕ) → isBoard b ≡ true → HeldRising 0 (heldOn b) × ((length (heldOn b) ≤ SLOTS) × (b ≡ boardOf (heldOn b)))
@@ -124,7 +128,8 @@ slots-length : (n : ℕ) (cs : List (List ℕ)) → length (slotsIn n cs) ≡ n 
 unfolding slotsIn
 slots-length n cs = padded-length (n * answerRoom) (slotsBytes cs)
 
-pub read-back : (n above : ℕ) (cs : List (List ℕ)) → HeldRising above cs → length cs ≤ n → (inOrder n above (slotsIn n cs) ≡ true) × (heldIn n (slotsIn n cs) ≡ cs)
+pub read-back : (n above : ℕ) (cs : List (List ℕ)) → HeldRising above cs → length cs ≤ n →
+    (inOrder n above (slotsIn n cs) ≡ true) × (heldIn n (slotsIn n cs) ≡ cs)
 unfolding heldIn inOrder
 read-back zero above [] r h = (refl, refl)
 read-back zero above (c ∷ cs) r h = absurd (omega arith)

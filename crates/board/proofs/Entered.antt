@@ -1,7 +1,8 @@
--- How a record goes into a board, in its bytes: the slots before its job stay, and the slot of its job is joined (`enters-slot`), or the slots after
--- it are moved up and it stands in a slot of its own (`enters-new`), or there is none free (`enters-none`): as `placed` says of what is held.
+-- How a record goes into a board, in its bytes: the slots before its job stay, and the slot of its job is joined (`enters-slot`), or the
+-- slots after it are moved up and it stands in a slot of its own (`enters-new`), or there is none free (`enters-none`): as `placed` says of
+-- what is held.
 use mathlib.Core.Path.{_≡_, refl, sym, ap, _∙_}
-use mathlib.Core.Bool.{Bool, true, false, cond, _&&_}
+use mathlib.Core.Bool.{Bool, true, false, cond, not, _&&_}
 use mathlib.Core.List.{List, [], _∷_, _++_, append-assoc, append-nil}
 use mathlib.Core.Logic.{_⊎_, inl, inr}
 use Prim.Native.Nat.{ℕ, zero, suc, _+_, _-_, _*_, _≤_, _<_}
@@ -11,11 +12,9 @@ use borrow.Rule.Slice.PartMut.{midOf, putMid}
 use lib.Dec.{ltb, eqb}
 use lib.ListN.{length, take, drop, length-append, length-drop, length-replicate, take-append-drop, replicate-append-replicate}
 use lib.Seq.{take-at, drop-at, drop-drop, take-append-le, length-take-le, take-take}
-use Rattle.little_endian.specs.Bytes.{numberAt}
-use Rattle.records.specs.Layout.{LENGTH, answerRoom, valueOf}
-use Rattle.outcomes.specs.Outcomes.{jobOf}
+use Rattle.records.specs.Layout.{Field, LENGTH, JOB, answerRoom, valueOf, jobOf}
 use Rattle.slots.specs.Slots.{padded, slotOf, contentOf, isHeld}
-use Rattle.little_endian.proofs.Same.{number-take, number-drop}
+use Rattle.little_endian.proofs.Same.{number-take}
 use Rattle.slots.proofs.Padding.{padded-length}
 use Rattle.slots.proofs.Zeros.{both, zeros-zero, zero-number}
 use Rattle.slots.proofs.Held.{slot-named, slot-job, content-back}
@@ -23,8 +22,9 @@ use Rattle.board.specs.declared.moves.Route.{Route}
 use Rattle.board.specs.declared.moves.Route.the-variants.{Joins, Enters, NoneFree}
 use Rattle.board.specs.declared.Posted.{Posted}
 use Rattle.board.specs.declared.Posted.the-variants.{Taken, Refused}
-use Rattle.board.specs.Board.{SLOTS, boardSize, inOrder, isBoard, heldOn, slotsBytes, boardOf, joined, placed, placedOn, HeldRising, next}
-use Rattle.board.specs.Internals.{slotsBeforeFree, slotsBelow, routeOf, movedUp}
+use Rattle.board.specs.Board.{SLOTS, boardSize, inOrder, isBoard, heldOn, slotsBytes, boardOf, joined, placed, placedOn}
+use Rattle.board.specs.Board.{HeldRising, next}
+use Rattle.board.specs.Internals.{slotsWhile, hasLength, slotsBeforeFree, slotsBelow, routeOf, movedUp}
 use Rattle.board.proofs.Boards.{one-more, zeros, padded-append, slotsIn, slots-next, slots-none, board-held}
 
 -- ---- the bytes of slots one after another
@@ -143,34 +143,40 @@ placed-settled (c ∷ cs) new = by (placed-settled cs new) (ltb (jobOf c) (jobOf
 
 -- ---- what the code counts and reads in the bytes
 
-first-slot : (c rest : List ℕ) (w at : ℕ) → at + w ≤ answerRoom → numberAt w (slotOf c ++ rest) at ≡ numberAt w (slotOf c) at
-first-slot c rest w at h =
-    sym (number-take w answerRoom at (slotOf c ++ rest) h) ∙ ap (λ (l : List ℕ). numberAt w l at) (take-at (slotOf c) rest answerRoom (padded-length answerRoom c))
+first-slot : (f : Field) (c rest : List ℕ) → f .offset + f .width ≤ answerRoom → valueOf f (slotOf c ++ rest) ≡ valueOf f (slotOf c)
+first-slot f c rest h =
+    sym (number-take (f .width) answerRoom (f .offset) (slotOf c ++ rest) h)
+    ∙ ap (valueOf f) (take-at (slotOf c) rest answerRoom (padded-length answerRoom c))
 
 behind-slot : (c rest : List ℕ) → drop answerRoom (slotOf c ++ rest) ≡ rest
 behind-slot c rest = drop-at (slotOf c) rest answerRoom (padded-length answerRoom c)
 
 slots-named : (n above : ℕ) (cs : List (List ℕ)) → HeldRising above cs → length cs ≤ n → slotsBeforeFree n (slotsIn n cs) ≡ length cs
-unfolding slotsBeforeFree
+unfolding slotsWhile
 slots-named zero above [] r h = refl
 slots-named zero above (c ∷ cs) r h = absurd (omega arith)
 slots-named (suc n) above [] r h =
-    let z : valueOf LENGTH (slotsIn (suc n) []) ≡ 0 = ap (valueOf LENGTH) (slots-none (suc n)) ∙ zero-number (zeros (suc n * answerRoom)) (zeros-zero (suc n * answerRoom)) 4 0 in
+    let size = suc n * answerRoom in
+    let zero-length = zero-number (zeros size) (zeros-zero size) (LENGTH .width) (LENGTH .offset) in
+    let z : valueOf LENGTH (slotsIn (suc n) []) ≡ 0 = ap (valueOf LENGTH) (slots-none (suc n)) ∙ zero-length in
     rw (eq-eqb (valueOf LENGTH (slotsIn (suc n) [])) 0 z) refl
 slots-named (suc n) above (c ∷ cs) (next low held r) h =
     let rest = slotsIn n cs in
     let more = slots-named n (jobOf c) cs r (omega arith) in
-    let named : eqb (valueOf LENGTH (slotOf c ++ rest)) 0 ≡ false = ne-eqb (valueOf LENGTH (slotOf c ++ rest)) 0 (λ e. slot-named c held (sym (first-slot c rest 4 0 (omega arith)) ∙ e)) in
+    let first = first-slot LENGTH c rest (omega arith) in
+    let named : eqb (valueOf LENGTH (slotOf c ++ rest)) 0 ≡ false =
+    ne-eqb (valueOf LENGTH (slotOf c ++ rest)) 0 (λ e. slot-named c held (sym first ∙ e)) in
     rw (slots-next n c cs, named, behind-slot c rest) (ap suc more)
 
 slots-below : (n job : ℕ) (cs : List (List ℕ)) → length cs ≤ n → slotsBelow (length cs) job (slotsIn n cs) ≡ below cs job
-unfolding slotsBelow below
+unfolding slotsWhile below
 slots-below n job [] h = refl
 slots-below zero job (c ∷ cs) h = absurd (omega arith)
 slots-below (suc n) job (c ∷ cs) h =
     let rest = slotsIn n cs in
     let more = slots-below n job cs (omega arith) in
-    rw (slots-next n c cs, first-slot c rest 4 6 (omega arith) ∙ slot-job c, behind-slot c rest) (ap (λ (k : ℕ). cond (ltb (jobOf c) job) (suc k) 0) more)
+    let its-job = first-slot JOB c rest (omega arith) ∙ slot-job c in
+    rw (slots-next n c cs, its-job, behind-slot c rest) (ap (λ (k : ℕ). cond (ltb (jobOf c) job) (suc k) 0) more)
 
 nothing : {c : List ℕ} {post : List (List ℕ)} → _≡_ {A = List (List ℕ)} [] (c ∷ post) → ⊥
 nothing f = let z : _≡_ {A = ℕ} 0 1 = cc in omega arith
@@ -185,7 +191,7 @@ rising-held above (suc k) (d ∷ ds) (next low held r) e = rising-held (jobOf d)
 
 -- it is at the end of what is held, or at another job
 abbrev NotThere : List ℕ → List ℕ → ℕ → Type 0
-NotThere b new i = (slotsBeforeFree SLOTS b ≤ i) ⊎ (numberAt 4 b (i * answerRoom + 6) ≡ jobOf new → ⊥)
+NotThere b new i = (slotsBeforeFree SLOTS b ≤ i) ⊎ (jobOf (drop (i * answerRoom) b) ≡ jobOf new → ⊥)
 
 -- what a call returns and leaves, as `placedOn` says
 abbrev pub Gives : List ℕ → List ℕ → Posted → List ℕ → Type 0
@@ -241,10 +247,9 @@ module _ (b new : List ℕ) (board : isBoard b ≡ true) where
         ∙ ap (midOf (length pre * answerRoom) answerRoom) shown
         ∙ the-slot (SLOTS - suc place) pre post c
 
-    job-here : numberAt 4 b (place * answerRoom + 6) ≡ jobOf c
+    job-here : jobOf (drop (place * answerRoom) b) ≡ jobOf c
     job-here =
-        sym (number-drop 4 (place * answerRoom) 6 b)
-        ∙ sym (number-take 4 answerRoom 6 (drop (place * answerRoom) b) (omega arith))
+        sym (number-take (JOB .width) answerRoom (JOB .offset) (drop (place * answerRoom) b) (omega arith))
         ∙ ap jobOf here
         ∙ slot-job c
 
@@ -265,7 +270,7 @@ module _ (b new : List ℕ) (board : isBoard b ≡ true) where
       pub ready : midOf (i * answerRoom) answerRoom b ≡ slotOf (contentOf (midOf (i * answerRoom) answerRoom b))
       pub done : (s : List ℕ) → s ≡ slotOf (joined (contentOf (midOf (i * answerRoom) answerRoom b)) new) → Gives b new Taken (putMid (i * answerRoom) answerRoom b s)
 
-    enters-slot : i < slotsBeforeFree SLOTS b → numberAt 4 b (i * answerRoom + 6) ≡ jobOf new → JoinsHere
+    enters-slot : i < slotsBeforeFree SLOTS b → jobOf (drop (i * answerRoom) b) ≡ jobOf new → JoinsHere
     unfolding settled
     enters-slot low same = by (drop place cs) refl
       where
@@ -275,7 +280,7 @@ module _ (b new : List ℕ) (board : isBoard b ≡ true) where
             let held : isHeld c ≡ true = rising-held 0 place cs (board-held b board .0) e in
             let slot : midOf (i * answerRoom) answerRoom b ≡ slotOf c = ap (λ (n : ℕ). midOf (n * answerRoom) answerRoom b) found ∙ here c post e in
             let content : contentOf (midOf (i * answerRoom) answerRoom b) ≡ c = ap contentOf slot ∙ content-back c held in
-            let its : jobOf c ≡ jobOf new = sym (job-here c post e) ∙ ap (λ (n : ℕ). numberAt 4 b (n * answerRoom + 6)) (sym found) ∙ same in
+            let its : jobOf c ≡ jobOf new = sym (job-here c post e) ∙ ap (λ (n : ℕ). jobOf (drop (n * answerRoom) b)) (sym found) ∙ same in
             let whole : placed cs new ≡ pre ++ (joined c new ∷ post) = placed-settled cs new ∙ rw (e, eq-eqb (jobOf c) (jobOf new) its) refl in
             let size : length (pre ++ (joined c new ∷ post)) ≤ SLOTS = omega (arith, length-append pre (joined c new ∷ post), pre-size, after c post e, few) in
             let go = taken (pre ++ (joined c new ∷ post)) whole size in
@@ -300,7 +305,7 @@ module _ (b new : List ℕ) (board : isBoard b ≡ true) where
           where
             other : NotThere b new i → jobOf c ≡ jobOf new → ⊥
             other (inl low) f = omega (arith, after c post e, found, low, filled-is)
-            other (inr differs) f = differs (ap (λ (n : ℕ). numberAt 4 b (n * answerRoom + 6)) found ∙ job-here c post e ∙ f)
+            other (inr differs) f = differs (ap (λ (n : ℕ). jobOf (drop (n * answerRoom) b)) found ∙ job-here c post e ∙ f)
 
     whole : NotThere b new i → placed cs new ≡ pre ++ (new ∷ drop place cs)
     whole h = placed-settled cs new ∙ ap (λ l. pre ++ l) (not-there h)
@@ -369,7 +374,7 @@ goes b new board = by (ltb i n) (eqb here (jobOf new)) (eqb n SLOTS) refl refl r
     i = slotsBelow n (jobOf new) b
 
     here : ℕ
-    here = numberAt 4 b (i * answerRoom + 6)
+    here = jobOf (drop (i * answerRoom) b)
 
     within : i ≤ n
     within = omega (arith, place-is b new board, below-le (heldOn b) (jobOf new), filled-is b new board)

@@ -5,15 +5,16 @@ use mathlib.Core.Bool.{Bool, true, cond, not, _&&_, _||_}
 use mathlib.Core.List.{List, [], _∷_, _++_}
 use lib.Dec.{eqb, ltb}
 use lib.ListN.{length, take, drop, replicate}
-use Rattle.records.specs.Layout.{answerRoom}
-use Rattle.outcomes.specs.Outcomes.{jobOf, revisionOf, isOutcome}
-use Rattle.slots.specs.Slots.{padded, slotOf, contentOf, conflictBytes, isHeld, isZero, isFilled, sameBytes}
+use Rattle.records.specs.Layout.{answerRoom, jobOf, revisionOf}
+use Rattle.records.specs.Records.{conflictBytes}
+use Rattle.outcomes.specs.Outcomes.{isOutcome}
+use Rattle.slots.specs.Slots.{padded, slotOf, contentOf, isHeld, isZero, isFilled, sameBytes}
 use Rattle.board.specs.declared.Posted.{Posted}
 use Rattle.board.specs.declared.Posted.the-variants.{Taken, Refused}
 
 -- ---- the bytes of a board
 
--- how many slots a board has, each with room for the longest answer, and its size: 33,792 bytes
+-- how many slots a board has, each with room for the longest answer, and its size
 abbrev pub SLOTS : ℕ
 SLOTS = 64
 
@@ -27,7 +28,7 @@ inOrder (suc n) above b =
     let slot = take answerRoom b in
     isZero b || (isFilled slot && ltb above (jobOf slot) && inOrder n (jobOf slot) (drop answerRoom b))
 
--- 64 slots in order, none of job 0
+-- its slots in order, none of job 0
 unfoldable pub isBoard : List ℕ → Bool
 isBoard b = eqb (length b) boardSize && inOrder SLOTS 0 b
 
@@ -54,11 +55,13 @@ emptyBoard = replicate boardSize 0
 -- what may stand in slots, in rising job number above a job
 pub data HeldRising : ℕ → List (List ℕ) → Type 0 where
   none : {above : ℕ} → HeldRising above []
-  next : {above : ℕ} {c : List ℕ} {cs : List (List ℕ)} → above < jobOf c → isHeld c ≡ true → HeldRising (jobOf c) cs → HeldRising above (c ∷ cs)
+  next : {above : ℕ} {c : List ℕ} {cs : List (List ℕ)} →
+      above < jobOf c → isHeld c ≡ true → HeldRising (jobOf c) cs → HeldRising above (c ∷ cs)
 
 -- ---- a record that comes in
 
--- what is held of a job once a record of it has come: the one of the higher revision; of one revision the same bytes again change nothing, and others make a conflict
+-- what is held of a job once a record of it has come: the one of the higher revision; of one revision the same bytes again change nothing,
+-- and others make a conflict
 unfoldable pub joined : List ℕ → List ℕ → List ℕ
 joined held new =
     cond (ltb (revisionOf held) (revisionOf new)) new
@@ -77,24 +80,24 @@ pub record Result : Type 0 where
   pub posted : Posted
   pub board : List ℕ
 
--- a refusal, B0 to B3 by its number, changes nothing
-abbrev pub refused : ℕ → List ℕ → Result
-refused number b = record { posted = Refused number; board = b }
+-- a refusal, B0 to B3 by its number, leaves the board unchanged
+abbrev pub unchanged : ℕ → List ℕ → Result
+unchanged number b = record { posted = Refused number; board = b }
 
 -- a record that counts, on a board. B3: no free slot for a new job
 unfoldable pub placedOn : List ℕ → List ℕ → Result
 placedOn b new =
     let after = placed (heldOn b) new in
-    cond (ltb SLOTS (length after)) (refused 3 b) (record { posted = Taken; board = boardOf after })
+    cond (ltb SLOTS (length after)) (unchanged 3 b) (record { posted = Taken; board = boardOf after })
 
 -- any record, on any bytes. B0: not a board; B1: a malformed record; B2: job 0
 unfoldable pub postOf : List ℕ → List ℕ → Result
 postOf b new =
-    cond (not (isBoard b)) (refused 0 b)
-    (cond (not (isOutcome new)) (refused 1 b)
-    (cond (eqb (jobOf new) 0) (refused 2 b) (placedOn b new)))
+    cond (not (isBoard b)) (unchanged 0 b)
+    (cond (not (isOutcome new)) (unchanged 1 b)
+    (cond (eqb (jobOf new) 0) (unchanged 2 b) (placedOn b new)))
 
 -- the call's result as one number: that of the refusal, and 255 for a record that was taken
-abbrev pub numberGiven : Posted → ℕ
-numberGiven Taken = 255
-numberGiven (Refused n) = n
+abbrev pub postedNumber : Posted → ℕ
+postedNumber Taken = 255
+postedNumber (Refused n) = n

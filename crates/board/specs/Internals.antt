@@ -1,23 +1,36 @@
 -- What private functions work out on the way; a reader of the promises may skip this. Definitions only.
 use Prim.Native.Nat.{ℕ, zero, suc, _+_, _-_, _*_}
-use mathlib.Core.Bool.{Bool, true, cond, _&&_}
+use mathlib.Core.Bool.{Bool, true, cond, not, _&&_}
 use mathlib.Core.List.{List, _++_}
 use lib.Dec.{eqb, ltb}
 use lib.ListN.{take, drop}
-use Rattle.little_endian.specs.Bytes.{numberAt}
-use Rattle.records.specs.Layout.{LENGTH, JOB, answerRoom, valueOf}
-use Rattle.outcomes.specs.Outcomes.{jobOf, revisionOf}
-use Rattle.slots.specs.Slots.{conflictBytes, isFilled}
+use Rattle.records.specs.Layout.{LENGTH, answerRoom, valueOf, jobOf, revisionOf}
+use Rattle.records.specs.Records.{conflictBytes}
+use Rattle.slots.specs.Slots.{isFilled}
 use Rattle.board.specs.declared.moves.Route.{Route}
 use Rattle.board.specs.declared.moves.Route.the-variants.{Joins, Enters, NoneFree}
 use Rattle.board.specs.declared.moves.Change.{Change}
 use Rattle.board.specs.declared.moves.Change.the-variants.{Nothing, Replaced, Conflict}
 use Rattle.board.specs.Board.{SLOTS}
 
+-- how many of n slots come before the first that fails a test
+unfoldable pub slotsWhile : (List ℕ → Bool) → ℕ → List ℕ → ℕ
+slotsWhile test zero b = 0
+slotsWhile test (suc n) b = cond (test b) (suc (slotsWhile test n (drop answerRoom b))) 0
+
 -- how many of n slots come before the first whose length is 0
-unfoldable pub slotsBeforeFree : ℕ → List ℕ → ℕ
-slotsBeforeFree zero b = 0
-slotsBeforeFree (suc n) b = cond (eqb (valueOf LENGTH b) 0) 0 (suc (slotsBeforeFree n (drop answerRoom b)))
+abbrev pub hasLength : List ℕ → Bool
+hasLength b = not (eqb (valueOf LENGTH b) 0)
+
+abbrev pub slotsBeforeFree : ℕ → List ℕ → ℕ
+slotsBeforeFree n b = slotsWhile hasLength n b
+
+-- how many of n slots come before a job
+abbrev pub isBelow : ℕ → List ℕ → Bool
+isBelow job b = ltb (jobOf b) job
+
+abbrev pub slotsBelow : ℕ → ℕ → List ℕ → ℕ
+slotsBelow n job b = slotsWhile (isBelow job) n b
 
 -- whether n slots are filled, in rising job number above a job
 unfoldable pub filledRising : ℕ → ℕ → List ℕ → Bool
@@ -26,18 +39,13 @@ filledRising (suc n) above b =
     let slot = take answerRoom b in
     isFilled slot && ltb above (jobOf slot) && filledRising n (jobOf slot) (drop answerRoom b)
 
--- how many of n slots come before a job
-unfoldable pub slotsBelow : ℕ → ℕ → List ℕ → ℕ
-slotsBelow zero job b = 0
-slotsBelow (suc n) job b = cond (ltb (jobOf b) job) (suc (slotsBelow n job (drop answerRoom b))) 0
-
 -- how a record of a job goes into a board, by the slots before its job
 unfoldable pub routeOf : List ℕ → ℕ → Route
 routeOf b job =
     let n = slotsBeforeFree SLOTS b in
     let i = slotsBelow n job b in
     let from = i * answerRoom in
-    cond (ltb i n && eqb (numberAt (JOB .width) b (from + JOB .offset)) job) (Joins from) (cond (eqb n SLOTS) NoneFree (Enters from (n * answerRoom)))
+    cond (ltb i n && eqb (jobOf (drop from b)) job) (Joins from) (cond (eqb n SLOTS) NoneFree (Enters from (n * answerRoom)))
 
 -- what is held of a job after each kind of change
 abbrev pub changed : Change → List ℕ → List ℕ → List ℕ

@@ -1,13 +1,15 @@
 // Whether bytes are a board.
 ghost use mathlib.Core.Path.{_≡_};
-ghost use Prim.Native.Nat.{_≤_};
-ghost use lib.ListN.{length};
-ghost use Rattle.board.specs.Board.{boardSize, isBoard};
+ghost use Prim.Native.Nat.{_*_, _≤_};
+ghost use lib.ListN.{length, drop};
+ghost use Rattle.records.specs.Layout.{LENGTH, answerRoom, valueOf};
+ghost use Rattle.board.specs.Board.{SLOTS, boardSize, isBoard};
 ghost use Rattle.board.specs.Internals.{slotsBeforeFree, filledRising};
 use crate::BOARD_SIZE;
 use crate::SLOTS;
-use little_endian::u32_at;
 use records::ANSWER_ROOM;
+use records::job_of;
+use records::length_of;
 
 pub(crate) fn is_board(board: &[u8]) -> bool
     ensures { λ r. ⌜ r ≡ isBoard (now (board .entry)) ⌝ }
@@ -23,18 +25,28 @@ pub(crate) fn is_board(board: &[u8]) -> bool
 // How many slots come before the first whose length is 0; on a board these are the filled ones.
 pub(crate) fn filled_slots(board: &[u8]) -> usize
     requires { ⌜ length (now board) ≡ boardSize ⌝ }
-    ensures { λ r. ⌜ (r ≤ 64) × (r ≡ slotsBeforeFree 64 (now (board .entry))) ⌝ }
+    ensures most { λ r. ⌜ r ≤ SLOTS ⌝ }
+    ensures result { λ r. ⌜ r ≡ slotsBeforeFree SLOTS (now (board .entry)) ⌝ }
 {
     let mut n: usize = 0;
-    while n < SLOTS && u32_at(board, n * ANSWER_ROOM) != 0 {
+    while n < SLOTS && length_in(board, n) != 0 {
         n += 1;
     }
     n
 }
 
+// The length that the slot of index i begins with.
+fn length_in(board: &[u8], i: usize) -> u32
+    requires { ⌜ (length (now board) ≡ boardSize) × (i ≤ SLOTS) ⌝ }
+    ensures { λ r. ⌜ r ≡ valueOf LENGTH (drop (i * answerRoom) (now (board .entry))) ⌝ }
+{
+    let from = i * ANSWER_ROOM;
+    length_of(&board[from..])
+}
+
 // Whether the first n slots are filled, in rising job number from above 0 on.
 fn are_filled(board: &[u8], n: usize) -> bool
-    requires { ⌜ (length (now board) ≡ boardSize) × (n ≤ 64) ⌝ }
+    requires { ⌜ (length (now board) ≡ boardSize) × (n ≤ SLOTS) ⌝ }
     ensures { λ r. ⌜ r ≡ filledRising n 0 (now (board .entry)) ⌝ }
 {
     let mut fine = true;
@@ -44,7 +56,7 @@ fn are_filled(board: &[u8], n: usize) -> bool
         let from = i * ANSWER_ROOM;
         let to = from + ANSWER_ROOM;
         let slot = &board[from..to];
-        let job = u32_at(slot, 6);
+        let job = job_of(slot);
         fine = fine & slots::is_filled(slot) & (above < job);
         above = job;
         i += 1;

@@ -1,4 +1,4 @@
-// A board of outcomes in lent bytes: 64 slots, one for each job, in rising job number (02, A1).
+// A board of outcomes in lent bytes: one slot for each job, in rising job number (02, A1).
 ghost use mathlib.Core.Path.{_≡_};
 ghost use Rattle.board.specs.Board.{postOf};
 
@@ -7,10 +7,10 @@ mod host;
 mod moves;
 
 use checks::is_board;
-use little_endian::u32_at;
 use moves::place;
+use records::job_of;
 
-// The number of slots, and the size of a board: 33,792 bytes.
+// The number of slots, and the size of a board.
 pub const SLOTS: usize = 64;
 
 pub const BOARD_SIZE: usize = SLOTS * records::ANSWER_ROOM;
@@ -24,7 +24,8 @@ pub enum Posted {
 
 // Posts a record on a board.
 pub fn post(board: &mut [u8], message: &[u8]) -> Posted
-    ensures { λ r. ⌜ (r ≡ postOf (now (board .entry)) (now (message .entry)) .posted) × (now (board .exit) ≡ postOf (now (board .entry)) (now (message .entry)) .board) ⌝ }
+    ensures result { λ r. ⌜ r ≡ postOf (now (board .entry)) (now (message .entry)) .posted ⌝ }
+    ensures board { λ _. ⌜ now (board .exit) ≡ postOf (now (board .entry)) (now (message .entry)) .board ⌝ }
 {
     if !is_board(board) {
         return Posted::Refused(0);
@@ -32,7 +33,7 @@ pub fn post(board: &mut [u8], message: &[u8]) -> Posted
     if !outcomes::is_outcome(message) {
         return Posted::Refused(1);
     }
-    if u32_at(message, 6) == 0 {
+    if job_of(message) == 0 {
         return Posted::Refused(2);
     }
     place(board, message)

@@ -2,17 +2,18 @@
 // its own job.
 ghost use mathlib.Core.Path.{_≡_};
 ghost use mathlib.Core.Bool.{true};
-ghost use Prim.Native.Nat.{_+_, _≤_};
-ghost use lib.ListN.{length};
-ghost use Rattle.records.specs.Layout.{answerRoom};
+ghost use Prim.Native.Nat.{_+_, _*_, _≤_};
+ghost use lib.ListN.{length, drop};
+ghost use Rattle.records.specs.Layout.{answerRoom, jobOf};
 ghost use Rattle.slots.specs.Slots.{slotOf, contentOf};
-ghost use Rattle.board.specs.Board.{boardSize, isBoard, joined, placedOn};
+ghost use Rattle.board.specs.Board.{SLOTS, boardSize, isBoard, joined, placedOn};
 ghost use Rattle.board.specs.Internals.{slotsBelow, routeOf, changed, movedUp};
 use crate::Posted;
 use crate::SLOTS;
 use crate::checks::filled_slots;
-use little_endian::u32_at;
 use records::ANSWER_ROOM;
+use records::job_of;
+use records::revision_of;
 
 // How a record of a job goes into a board: it joins the slot from a place on; it enters between two slots, at a place, and
 // the slots from there up to another place are moved up; or there is no slot for it.
@@ -25,9 +26,10 @@ enum Route {
 // Places a record, which is not malformed, on a board.
 pub(crate) fn place(board: &mut [u8], message: &[u8]) -> Posted
     requires { ⌜ isBoard (now board) ≡ true ⌝ }
-    ensures { λ r. ⌜ (r ≡ placedOn (now (board .entry)) (now (message .entry)) .posted) × (now (board .exit) ≡ placedOn (now (board .entry)) (now (message .entry)) .board) ⌝ }
+    ensures result { λ r. ⌜ r ≡ placedOn (now (board .entry)) (now (message .entry)) .posted ⌝ }
+    ensures board { λ _. ⌜ now (board .exit) ≡ placedOn (now (board .entry)) (now (message .entry)) .board ⌝ }
 {
-    match route_of(board, u32_at(message, 6)) {
+    match route_of(board, job_of(message)) {
         Route::Joins(from) => {
             let to = from + ANSWER_ROOM;
             join(&mut board[from..to], message);
@@ -50,7 +52,7 @@ fn route_of(board: &[u8], job: u32) -> Route
     let filled = filled_slots(board);
     let i = slots_below(board, filled, job);
     let from = i * ANSWER_ROOM;
-    if (i < filled) & (u32_at(board, from + 6) == job) {
+    if (i < filled) & (job_in(board, i) == job) {
         return Route::Joins(from);
     }
     if filled == SLOTS {
@@ -61,14 +63,24 @@ fn route_of(board: &[u8], job: u32) -> Route
 
 // How many of the first n slots come before a job.
 fn slots_below(board: &[u8], n: usize, job: u32) -> usize
-    requires { ⌜ (length (now board) ≡ boardSize) × (n ≤ 64) ⌝ }
-    ensures { λ r. ⌜ (r ≤ n) × (r ≡ slotsBelow n job (now (board .entry))) ⌝ }
+    requires { ⌜ (length (now board) ≡ boardSize) × (n ≤ SLOTS) ⌝ }
+    ensures most { λ r. ⌜ r ≤ n ⌝ }
+    ensures result { λ r. ⌜ r ≡ slotsBelow n job (now (board .entry)) ⌝ }
 {
     let mut i: usize = 0;
-    while i < n && u32_at(board, i * ANSWER_ROOM + 6) < job {
+    while i < n && job_in(board, i) < job {
         i += 1;
     }
     i
+}
+
+// The job that the slot of index i names.
+fn job_in(board: &[u8], i: usize) -> u32
+    requires { ⌜ (length (now board) ≡ boardSize) × (i ≤ SLOTS) ⌝ }
+    ensures { λ r. ⌜ r ≡ jobOf (drop (i * answerRoom) (now (board .entry))) ⌝ }
+{
+    let from = i * ANSWER_ROOM;
+    job_of(&board[from..])
 }
 
 // What a record of its job makes of a slot.
@@ -80,10 +92,11 @@ enum Change {
 
 fn change_of(slot: &[u8], message: &[u8]) -> Change
     requires { ⌜ now slot ≡ slotOf (contentOf (now slot)) ⌝ }
-    ensures { λ r. ⌜ changed r (contentOf (now (slot .entry))) (now (message .entry)) ≡ joined (contentOf (now (slot .entry))) (now (message .entry)) ⌝ }
+    ensures { λ r. ⌜ changed r (contentOf (now (slot .entry))) (now (message .entry))
+        ≡ joined (contentOf (now (slot .entry))) (now (message .entry)) ⌝ }
 {
-    let held = u32_at(slot, 10);
-    let new = u32_at(message, 10);
+    let held = revision_of(slot);
+    let new = revision_of(message);
     if held < new {
         return Change::Replaced;
     }
@@ -108,7 +121,7 @@ fn join(slot: &mut [u8], message: &[u8])
             slots::fill(slot, message);
         }
         Change::Conflict => {
-            slots::fill_conflict(slot, u32_at(message, 6), u32_at(message, 10));
+            slots::fill_conflict(slot, job_of(message), revision_of(message));
         }
     }
 }

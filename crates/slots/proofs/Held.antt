@@ -9,8 +9,8 @@ use borrow.Author.Tests.{eqb-true, ne-eqb, leb-true}
 use lib.Dec.{eqb, leb}
 use lib.ListN.{length, take, drop, replicate, length-take, length-drop, take-append-drop}
 use lib.Seq.{take-at, drop-at}
-use Rattle.records.specs.Layout.{LENGTH, JOB, answerKind, refusalKind, conflictKind, firstNumber, lastNumber, mostEntries, valueOf}
-use Rattle.records.specs.Layout.{refusalSize, answerSize, conflictSize, answerRoom, kindOf, jobOf, numberOf, sizeOf}
+use Rattle.records.specs.Layout.{Field, LENGTH, JOB, REVISION, answerKind, refusalKind, conflictKind, firstNumber, lastNumber, mostEntries}
+use Rattle.records.specs.Layout.{refusalSize, answerSize, conflictSize, answerRoom, valueOf, kindOf, jobOf, revisionOf, numberOf, sizeOf}
 use Rattle.records.proofs.Sizes.{refusal-room, answer-room}
 use Rattle.outcomes.specs.Outcomes.{isSized, isBetween, isRefusal, allNameAnEnd, isAnswer, isOutcome}
 use Rattle.slots.specs.Slots.{slotOf, contentOf, isConflict, isHeld, isZero, isFilled}
@@ -108,9 +108,15 @@ held-sizes c e =
 
 -- ---- from what is held to its slot, and back
 
--- of any bytes
+-- a field of any bytes
+slot-field : (f : Field) (c : List ℕ) → f .offset + f .width ≤ answerRoom → valueOf f (slotOf c) ≡ valueOf f c
+slot-field f c h = number-padded (f .width) answerRoom (f .offset) c h
+
 pub slot-job : (c : List ℕ) → jobOf (slotOf c) ≡ jobOf c
-slot-job c = number-padded (JOB .width) answerRoom (JOB .offset) c (omega arith)
+slot-job c = slot-field JOB c (omega arith)
+
+pub slot-revision : (c : List ℕ) → revisionOf (slotOf c) ≡ revisionOf c
+slot-revision c = slot-field REVISION c (omega arith)
 
 module _ (c : List ℕ) (held : isHeld c ≡ true) where
   pub held-size : length c ≡ sizeOf c
@@ -127,8 +133,7 @@ module _ (c : List ℕ) (held : isHeld c ≡ true) where
   slot-is = padded-is answerRoom c held-fits
 
   slot-size : sizeOf (slotOf c) ≡ length c
-  slot-size =
-      ap (λ (n : ℕ). n + LENGTH .width) (number-padded (LENGTH .width) answerRoom (LENGTH .offset) c (omega arith)) ∙ sym held-size
+  slot-size = ap (λ (n : ℕ). n + LENGTH .width) (slot-field LENGTH c (omega arith)) ∙ sym held-size
 
   pub content-back : contentOf (slotOf c) ≡ c
   unfolding contentOf

@@ -1,6 +1,8 @@
 -- `post` meets its contract: the refusals in their order, and then `place`.
 use mathlib.Core.Path.{_≡_, refl, sym, _∙_}
 use mathlib.Core.Bool.{true, false}
+use mathlib.Core.List.{List}
+use Prim.Native.Nat.{ℕ}
 use borrow.Author.Needs.{needs}
 use borrow.Author.Tests.{not-true, not-false, eq-eqb, ne-eqb}
 use Rattle.outcomes.specs.Outcomes.{isOutcome}
@@ -14,14 +16,23 @@ is-board-requires c κs = search needs
 same-length : tie.Need-same-length
 same-length c = search needs
 
--- what the tests found of the board, of the record and of its job
-no-board : (c : tie.Then1) → isBoard (c .before .before .before .before .before .args .board .now) ≡ false
+-- the board and the record that comes in, and what the tests found of them
+abbrev board-at : tie.After-is-board → List ℕ
+board-at c = c .before .before .before .before .args .board .now
+
+abbrev message-at : tie.After-is-board → List ℕ
+message-at c = c .before .before .before .before .args .message .now
+
+no-board : (c : tie.Then1) → isBoard (board-at (c .before)) ≡ false
 no-board c = sym (c .before .is-board .ensures) ∙ not-true (c .before .is-board .result) (c .if1 .taken)
 
-board : (c : tie.Else1) → isBoard (c .before .before .before .before .before .args .board .now) ≡ true
+board : (c : tie.Else1) → isBoard (board-at (c .before)) ≡ true
 board c = sym (c .before .is-board .ensures) ∙ not-false (c .before .is-board .result) (c .if1 .left)
 
-formed : (c : tie.Else2) → isOutcome (c .before .before .before .before .before .before .before .args .message .now) ≡ true
+malformed : (c : tie.Then2) → isOutcome (message-at (c .before .before .before)) ≡ false
+malformed c = sym (c .before .is-outcome .ensures) ∙ not-true (c .before .is-outcome .result) (c .if2 .taken)
+
+formed : (c : tie.Else2) → isOutcome (message-at (c .before .before .before)) ≡ true
 formed c = sym (c .before .is-outcome .ensures) ∙ not-false (c .before .is-outcome .result) (c .if2 .left)
 
 returns : tie.Need-returns
@@ -36,12 +47,10 @@ same-length-2 c = search needs
 
 returns-2 : tie.Need-returns-2
 unfolding postOf
-returns-2 c =
-    let malformed : isOutcome (c .before .before .before .before .before .before .before .args .message .now) ≡ false = sym (c .before .is-outcome .ensures) ∙ not-true (c .before .is-outcome .result) (c .if2 .taken) in
-    rw (board (c .before .before), malformed) (refl, refl)
+returns-2 c = rw (board (c .before .before), malformed c) (refl, refl)
 
-u32-at-requires : tie.Need-u32-at-requires
-u32-at-requires c κs = search needs
+job-of-requires : tie.Need-job-of-requires
+job-of-requires c κs = search needs
 
 same-length-3 : tie.Need-same-length-3
 same-length-3 c = search needs
@@ -49,11 +58,15 @@ same-length-3 c = search needs
 returns-3 : tie.Need-returns-3
 unfolding postOf
 returns-3 c =
-    let job = c .before .u32-at in
-    rw (board (c .before .before .before .before), formed (c .before .before), ← job .ensures, eq-eqb (job .result) 0 (c .if3 .taken)) (refl, refl)
+    let read = c .before in
+    let job = read .job-of in
+    let tested = read .before in
+    rw (board (tested .before .before), formed tested, ← job .ensures, eq-eqb (job .result) 0 (c .if3 .taken)) (refl, refl)
 
 place-requires : tie.Need-place-requires
-place-requires c κs = board (c .before .before .before .before .before)
+place-requires c κs =
+    let tested = c .before .before .before in
+    board (tested .before .before)
 
 same-length-4 : tie.Need-same-length-4
 same-length-4 c = search needs
@@ -61,9 +74,12 @@ same-length-4 c = search needs
 returns-4 : tie.Need-returns-4
 unfolding postOf
 returns-4 c =
-    let k = c .before .before .before .before in
-    let job = k .before .u32-at in
-    rw (board (k .before .before .before .before), formed (k .before .before), ← job .ensures, ne-eqb (job .result) 0 (k .if3 .left)) (c .before .before .place .ensures)
+    let placed = c .before .before in
+    let named = placed .before .before in
+    let job = named .before .job-of in
+    let tested = named .before .before in
+    let other = ne-eqb (job .result) 0 (named .if3 .left) in
+    rw (board (tested .before .before), formed tested, ← job .ensures, other) (placed .place .ensures)
 
 pub post-spec : {M : Type 1} → statement M
 post-spec =
@@ -75,7 +91,7 @@ post-spec =
     is-outcome-requires
     same-length-2
     returns-2
-    u32-at-requires
+    job-of-requires
     same-length-3
     returns-3
     place-requires

@@ -1,11 +1,12 @@
--- `are_filled` meets its contract: what was found of the slots that were passed, and what holds of the rest, is what holds of all; the measure is how many are left.
+-- `are_filled` meets its contract. The loop's invariant: what was found of the slots that were passed, and what holds of the rest, is what
+-- holds of all. The measure is how many are left.
 use mathlib.Core.Path.{_≡_, refl, sym, ap, _∙_}
 use mathlib.Core.Bool.{Bool, true, _&&_, and-assoc, and-true}
 use Prim.Native.Nat.{ℕ, _+_, _-_, _*_, _≤_}
 use native.Mathlib.Omega.{arith}
 use lib.Dec.{ltb}
 use lib.ListN.{take, drop}
-use Rattle.outcomes.specs.Outcomes.{jobOf}
+use Rattle.records.specs.Layout.{answerRoom, jobOf}
 use Rattle.slots.specs.Slots.{isFilled}
 use Rattle.board.specs.Internals.{filledRising}
 use Rattle.board.proofs.Checked.{rising-next}
@@ -13,7 +14,8 @@ use Rattle.board.proofs.checks.are_filled.Statement.{statement}
 use Rattle.board.proofs.checks.are_filled.Tie as tie
 
 abbrev Inv-loop : tie.InvT-loop
-Inv-loop board n fine₀ above₀ i₀ fine above i = (i ≤ n) × (fine && filledRising (n - i) above (drop (i * 528) board) ≡ filledRising n 0 board)
+Inv-loop board n fine₀ above₀ i₀ fine above i =
+    (i ≤ n) × (fine && filledRising (n - i) above (drop (i * answerRoom) board) ≡ filledRising n 0 board)
 
 abbrev μ-loop : tie.MeasureT-loop
 μ-loop board n fine₀ above₀ i₀ fine above i = n - i
@@ -38,8 +40,8 @@ part-slot-start c = omega arith
 part-slot-end : tie.Need-part-slot-end Inv-loop μ-loop
 part-slot-end c = omega arith
 
-u32-at-requires : tie.Need-u32-at-requires Inv-loop μ-loop
-u32-at-requires c κs = tt
+job-of-requires : tie.Need-job-of-requires Inv-loop μ-loop
+job-of-requires c κs = tt
 
 is-filled-requires : tie.Need-is-filled-requires Inv-loop μ-loop
 is-filled-requires c κs = tt
@@ -55,15 +57,20 @@ loop-again c =
     let l = c .before .before .before .before .loop in
     let a = c .before .before .before .before .before .before .args in
     let b = a .board .now in
-    let slot = take 528 (drop (l .i * 528) b) in
-    let rest : ℕ → Bool = λ job. filledRising (a .n - (l .i + 1)) job (drop ((l .i + 1) * 528) b) in
-    let part : l .i * 528 + 528 - l .i * 528 ≡ 528 = omega arith in
-    let job : c .before .u32-at .result ≡ jobOf slot = c .before .u32-at .ensures ∙ ap (λ (k : ℕ). jobOf (take k (drop (l .i * 528) b))) part in
-    let filled : c .is-filled .result ≡ isFilled slot = c .is-filled .ensures ∙ ap (λ (k : ℕ). isFilled (take k (drop (l .i * 528) b))) part in (
+    let from = l .i * answerRoom in
+    let slot = take answerRoom (drop from b) in
+    let job = jobOf slot in
+    let filled = isFilled slot in
+    let rises = ltb (l .above) job in
+    let rest = filledRising (a .n - (l .i + 1)) job (drop ((l .i + 1) * answerRoom) b) in
+    let part : from + answerRoom - from ≡ answerRoom = omega arith in
+    let read-job : c .before .job-of .result ≡ job = c .before .job-of .ensures ∙ ap (λ (k : ℕ). jobOf (take k (drop from b))) part in
+    let read-filled : c .is-filled .result ≡ filled =
+    c .is-filled .ensures ∙ ap (λ (k : ℕ). isFilled (take k (drop from b))) part in (
       omega arith,
-      rw (job, filled)
-          (ap (λ (t : Bool). t && rest (jobOf slot)) (and-assoc (l .fine) (isFilled slot) (ltb (l .above) (jobOf slot)))
-          ∙ and-assoc (l .fine) (isFilled slot && ltb (l .above) (jobOf slot)) (rest (jobOf slot))
+      rw (read-job, read-filled)
+          (ap (λ (t : Bool). t && rest) (and-assoc (l .fine) filled rises)
+          ∙ and-assoc (l .fine) (filled && rises) rest
           ∙ ap (λ (t : Bool). l .fine && t) (sym (rising-next (a .n) (l .i) b (omega arith) (l .above)))
           ∙ l .inv .1),
     )
@@ -74,7 +81,7 @@ returns c =
     let l = c .before .loop in
     let a = c .before .before .before .args in
     let all : a .n - l .i ≡ 0 = omega arith in
-    let none : filledRising (a .n - l .i) (l .above) (drop (l .i * 528) (a .board .now)) ≡ true = rw all refl in
+    let none : filledRising (a .n - l .i) (l .above) (drop (l .i * answerRoom) (a .board .now)) ≡ true = rw all refl in
     sym (and-true (l .fine)) ∙ ap (λ (t : Bool). l .fine && t) (sym none) ∙ l .inv .1
 
 pub are-filled-spec : {M : Type 1} → statement M
@@ -89,7 +96,7 @@ are-filled-spec =
     sub-slot
     part-slot-start
     part-slot-end
-    u32-at-requires
+    job-of-requires
     is-filled-requires
     add-i
     loop-less

@@ -2,27 +2,29 @@
 use mathlib.Core.Path.{_≡_, refl, sym, ap, _∙_}
 use mathlib.Core.Bool.{true, false, _&&_}
 use mathlib.Core.List.{List}
-use Prim.Native.Nat.{ℕ, _-_, _*_}
+use Prim.Native.Nat.{ℕ, _*_}
 use native.Mathlib.Omega.{arith}
 use borrow.Author.Needs.{needs}
 use borrow.Author.Tests.{eq-eqb, ne-eqb}
-use lib.ListN.{length, drop, length-drop}
-use lib.Seq.{take-all}
+use lib.ListN.{length, drop}
+use Rattle.records.specs.Layout.{answerRoom}
 use Rattle.slots.specs.Slots.{isZero}
-use Rattle.board.specs.Board.{isBoard}
+use Rattle.board.specs.Board.{SLOTS, boardSize, isBoard}
 use Rattle.board.specs.Internals.{slotsBeforeFree, filledRising}
-use Rattle.board.proofs.Checked.{checked}
+use Rattle.board.proofs.Checked.{checked, rest-is}
 use Rattle.board.proofs.checks.is_board.Statement.{statement}
 use Rattle.board.proofs.checks.is_board.Tie as tie
 
 -- the two tests of a board of the right size
-tested : (b : List ℕ) → length b ≡ 33792 → isBoard b ≡ filledRising (slotsBeforeFree 64 b) 0 b && isZero (drop (slotsBeforeFree 64 b * 528) b)
+tested : (b : List ℕ) → length b ≡ boardSize →
+    let n = slotsBeforeFree SLOTS b in
+    isBoard b ≡ filledRising n 0 b && isZero (drop (n * answerRoom) b)
 unfolding isBoard
-tested b e = rw (eq-eqb (length b) 33792 e) (checked 64 0 b e)
+tested b e = rw (eq-eqb (length b) boardSize e) (checked SLOTS 0 b e)
 
 returns : tie.Need-returns
 unfolding isBoard
-returns c = rw (ne-eqb (length (c .before .before .args .board .now)) 33792 (c .if1 .taken)) refl
+returns c = rw (ne-eqb (length (c .before .before .args .board .now)) boardSize (c .if1 .taken)) refl
 
 filled-slots-requires : tie.Need-filled-slots-requires
 filled-slots-requires c κs = search needs
@@ -47,16 +49,20 @@ is-zero-requires c κs = search needs
 
 returns-2 : tie.Need-returns-2
 returns-2 c =
-    let b = c .before .before .before .before .before .before .before .args .board .now in
-    let n = c .before .before .before .before .filled-slots in
-    let zero : c .is-zero .result ≡ isZero (drop (n .result * 528) b) = c .is-zero .ensures ∙ ap isZero (take-all (length b - n .result * 528) (drop (n .result * 528) b) (omega (arith, length-drop (n .result * 528) b))) in
-    let filled : filledRising (n .result) 0 b ≡ true = sym (c .before .before .before .are-filled .ensures) ∙ c .before .before .if2 .taken in
+    let asked = c .before .before .before in
+    let counted = asked .before in
+    let b = counted .before .before .before .args .board .now in
+    let n = counted .filled-slots in
+    let zero : c .is-zero .result ≡ isZero (drop (n .result * answerRoom) b) =
+    c .is-zero .ensures ∙ ap isZero (rest-is (n .result * answerRoom) b) in
+    let filled : filledRising (n .result) 0 b ≡ true = sym (asked .are-filled .ensures) ∙ c .before .before .if2 .taken in
     zero ∙ sym (tested b (omega arith) ∙ rw (← n .ensures .1, filled) refl)
 
 returns-3 : tie.Need-returns-3
 returns-3 c =
-    let b = c .before .before .before .before .before .args .board .now in
-    let n = c .before .before .filled-slots in
+    let counted = c .before .before in
+    let b = counted .before .before .before .args .board .now in
+    let n = counted .filled-slots in
     let not-filled : filledRising (n .result) 0 b ≡ false = sym (c .before .are-filled .ensures) ∙ c .if2 .left in
     c .if2 .left ∙ sym (tested b (omega arith) ∙ rw (← n .ensures .1, not-filled) refl)
 

@@ -1,7 +1,7 @@
 -- `lambert_post` meets its contract: what `post` returns, as one number.
 use mathlib.Core.Path.{sym, ap, _∙_}
 use borrow.Author.Needs.{needs}
-use Rattle.board.specs.Board.{numberGiven}
+use Rattle.board.specs.Board.{postedNumber}
 use Rattle.board.proofs.host.lambert_post.Statement.{statement}
 use Rattle.board.proofs.host.lambert_post.Tie as tie
 
@@ -18,13 +18,18 @@ same-length : tie.Need-same-length
 same-length c = search needs
 
 returns : tie.Need-returns
-returns c = (ap numberGiven (sym (c .enum-told .given .1) ∙ c .before .before .before .before .post .ensures .0), c .before .before .before .before .post .ensures .1)
+returns c =
+    let posted = c .before .before .before .before .post in
+    (ap postedNumber (sym (c .enum-told .given .1) ∙ posted .ensures .0), posted .ensures .1)
 
 same-length-2 : tie.Need-same-length-2
 same-length-2 c = search needs
 
 returns-2 : tie.Need-returns-2
-returns-2 c = (ap numberGiven (sym (c .before .number .given .1) ∙ c .before .before .before .before .before .post .ensures .0), c .before .before .before .before .before .post .ensures .1)
+returns-2 c =
+    let told = c .before in
+    let posted = told .before .before .before .before .post in
+    (ap postedNumber (sym (told .number .given .1) ∙ posted .ensures .0), posted .ensures .1)
 
 pub lambert-post-spec : {M : Type 1} → statement M
 lambert-post-spec =

@@ -10,81 +10,111 @@ use lib.Dec.{ltb}
 use lib.ListN.{take}
 use lib.Seq.{length-take-le}
 use Rattle.little_endian.proofs.Cuts.{take-cut}
-use Rattle.outcomes.specs.Outcomes.{revisionOf}
-use Rattle.slots.specs.Slots.{slotOf, contentOf, sizeIn, sameBytes}
-use Rattle.slots.proofs.Padding.{number-padded}
+use Rattle.records.specs.Layout.{revisionOf, sizeOf}
+use Rattle.slots.specs.Slots.{contentOf, sameBytes}
+use Rattle.slots.proofs.Held.{slot-revision}
 use Rattle.board.specs.Board.{joined}
 use Rattle.board.proofs.moves.change_of.Statement.{statement}
 use Rattle.board.proofs.moves.change_of.Tie as tie
 
-u32-at-requires : tie.Need-u32-at-requires
-u32-at-requires c κs = search needs
+revision-of-requires : tie.Need-revision-of-requires
+revision-of-requires c κs = search needs
 
-u32-at-requires-2 : tie.Need-u32-at-requires-2
-u32-at-requires-2 c κs = search needs
+revision-of-requires-2 : tie.Need-revision-of-requires-2
+revision-of-requires-2 c κs = search needs
+
+-- the slot, and the record that comes in
+abbrev slot-at : tie.After-revision-of2 → List ℕ
+slot-at c = c .before .before .before .before .args .slot .now
+
+abbrev message-at : tie.After-revision-of2 → List ℕ
+message-at c = c .before .before .before .before .args .message .now
 
 -- a slot and its content name the same revision
-same-revision : (s : List ℕ) → s ≡ slotOf (contentOf s) → revisionOf (contentOf s) ≡ revisionOf s
-same-revision s e = sym (ap revisionOf e ∙ number-padded 4 528 10 (contentOf s) (omega arith))
+same-revision : (c : tie.After-revision-of2) → revisionOf (contentOf (slot-at c)) ≡ revisionOf (slot-at c)
+same-revision c =
+    let ready = c .before .before .before .before .pre in
+    sym (ap revisionOf ready ∙ slot-revision (contentOf (slot-at c)))
 
 -- the bytes that are compared are the content
-content-is : (c : tie.After-same-bytes) → c .same-bytes .result ≡ sameBytes (contentOf (c .before .before .before .before .before .before .before .before .before .args .slot .now)) (c .before .before .before .before .before .before .before .before .before .args .message .now)
+abbrev read-at : tie.After-same-bytes → tie.After-revision-of2
+read-at c = c .before .before .before .before .before
+
+content-is : (c : tie.After-same-bytes) → c .same-bytes .result ≡ sameBytes (contentOf (slot-at (read-at c))) (message-at (read-at c))
 unfolding contentOf
 content-is c =
-    let a = c .before .before .before .before .before .before .before .before .before .args in
-    c .same-bytes .ensures ∙ ap (λ (l : List ℕ). sameBytes l (a .message .now)) (ap (λ (n : ℕ). take n (a .slot .now)) (c .before .before .content-size .ensures) ∙ take-cut (sizeIn (a .slot .now)) (a .slot .now))
+    let slot = slot-at (read-at c) in
+    let cut = ap (λ (n : ℕ). take n slot) (c .before .before .content-size .ensures) ∙ take-cut (sizeOf slot) slot in
+    c .same-bytes .ensures ∙ ap (λ (l : List ℕ). sameBytes l (message-at (read-at c))) cut
 
 returns : tie.Need-returns
 unfolding joined
 returns c =
-    let s = c .before .before .before .before .before in
-    rw (same-revision (s .args .slot .now) (s .pre), lt-ltb (revisionOf (s .args .slot .now)) (revisionOf (s .args .message .now)) (omega (arith, c .before .before .u32-at .ensures, c .before .u32-at2 .ensures, c .if1 .taken))) refl
+    let read = c .before in
+    let held = revisionOf (slot-at read) in
+    let new = revisionOf (message-at read) in
+    let newer = lt-ltb held new (omega (arith, read .before .revision-of .ensures, read .revision-of2 .ensures, c .if1 .taken)) in
+    rw (same-revision read, newer) refl
 
 returns-2 : tie.Need-returns-2
 unfolding joined
 returns-2 c =
-    let s = c .before .before .before .before .before .before in
-    let held = revisionOf (s .args .slot .now) in
-    let new = revisionOf (s .args .message .now) in
-    rw (same-revision (s .args .slot .now) (s .pre), le-ltb held new (omega (arith, c .before .before .before .u32-at .ensures, c .before .before .u32-at2 .ensures, c .if2 .taken)), lt-ltb new held (omega (arith, c .before .before .before .u32-at .ensures, c .before .before .u32-at2 .ensures, c .if2 .taken))) refl
+    let read = c .before .before in
+    let held-is = read .before .revision-of .ensures in
+    let new-is = read .revision-of2 .ensures in
+    let held = revisionOf (slot-at read) in
+    let new = revisionOf (message-at read) in
+    let not-newer = le-ltb held new (omega (arith, held-is, new-is, c .if2 .taken)) in
+    let older = lt-ltb new held (omega (arith, held-is, new-is, c .if2 .taken)) in
+    rw (same-revision read, not-newer, older) refl
 
 content-size-requires : tie.Need-content-size-requires
 content-size-requires c κs = search needs
 
 slice-aggregate-same-bytes : tie.Need-slice-aggregate-same-bytes
-slice-aggregate-same-bytes c = sym (length-take-le (c .before .content-size .result) (c .before .before .before .before .before .before .before .before .args .slot .now) (omega (arith, c .before .content-size .ensures)))
+slice-aggregate-same-bytes c =
+    let sized = c .before in
+    let slot = slot-at (sized .before .before .before) in
+    sym (length-take-le (sized .content-size .result) slot (omega (arith, sized .content-size .ensures)))
 
 same-bytes-requires : tie.Need-same-bytes-requires
 same-bytes-requires c κs = search needs
 
 -- neither revision is below the other
-level : (c : tie.After-same-bytes) → let s = c .before .before .before .before .before .before .before .before .before in
-    (ltb (revisionOf (s .args .slot .now)) (revisionOf (s .args .message .now)) ≡ false) × (ltb (revisionOf (s .args .message .now)) (revisionOf (s .args .slot .now)) ≡ false)
+level : (c : tie.After-same-bytes) →
+    let held = revisionOf (slot-at (read-at c)) in
+    let new = revisionOf (message-at (read-at c)) in
+    (ltb held new ≡ false) × (ltb new held ≡ false)
 level c =
-    let s = c .before .before .before .before .before .before .before .before .before in
-    let u = c .before .before .before .before .before in
-    let held = revisionOf (s .args .slot .now) in
-    let new = revisionOf (s .args .message .now) in
-    (le-ltb held new (omega (arith, u .before .u32-at .ensures, u .u32-at2 .ensures, c .before .before .before .before .if1 .left)), le-ltb new held (omega (arith, u .before .u32-at .ensures, u .u32-at2 .ensures, c .before .before .before .if2 .left)))
+    let not-older = c .before .before .before in
+    let not-newer = not-older .before in
+    let read = not-newer .before in
+    let held-is = read .before .revision-of .ensures in
+    let new-is = read .revision-of2 .ensures in
+    let held = revisionOf (slot-at read) in
+    let new = revisionOf (message-at read) in (
+      le-ltb held new (omega (arith, held-is, new-is, not-newer .if1 .left)),
+      le-ltb new held (omega (arith, held-is, new-is, not-older .if2 .left)),
+    )
 
 returns-3 : tie.Need-returns-3
 unfolding joined
 returns-3 c =
-    let s = c .before .before .before .before .before .before .before .before .before .before in
-    rw (same-revision (s .args .slot .now) (s .pre), level (c .before) .0, level (c .before) .1, ← content-is (c .before), c .if3 .taken) refl
+    let compared = c .before in
+    rw (same-revision (read-at compared), level compared .0, level compared .1, ← content-is compared, c .if3 .taken) refl
 
 returns-4 : tie.Need-returns-4
 unfolding joined
 returns-4 c =
-    let s = c .before .before .before .before .before .before .before .before .before .before in
-    rw (same-revision (s .args .slot .now) (s .pre), level (c .before) .0, level (c .before) .1, ← content-is (c .before), c .if3 .left) refl
+    let compared = c .before in
+    rw (same-revision (read-at compared), level compared .0, level compared .1, ← content-is compared, c .if3 .left) refl
 
 pub change-of-spec : {M : Type 1} → statement M
 change-of-spec =
     tie.close
     (tie.spec
-    u32-at-requires
-    u32-at-requires-2
+    revision-of-requires
+    revision-of-requires-2
     returns
     returns-2
     content-size-requires

@@ -4,7 +4,9 @@ use mathlib.Core.List.{List}
 use Prim.Native.Nat.{ℕ}
 use borrow.Author.Needs.{needs}
 use lib.ListN.{length}
-use Rattle.slots.specs.Slots.{padded, slotOf, contentOf, conflictBytes}
+use Rattle.records.specs.Layout.{answerRoom}
+use Rattle.records.specs.Records.{conflictBytes}
+use Rattle.slots.specs.Slots.{padded, slotOf, contentOf}
 use Rattle.slots.proofs.Padding.{padded-length}
 use Rattle.board.specs.declared.moves.Change.{Change}
 use Rattle.board.specs.declared.moves.Change.the-variants.{Nothing, Replaced, Conflict}
@@ -28,11 +30,11 @@ fill-requires c κs = search needs
 enum-told-3 : tie.Need-enum-told-3
 enum-told-3 c = search needs
 
-u32-at-requires : tie.Need-u32-at-requires
-u32-at-requires c κs = search needs
+job-of-requires : tie.Need-job-of-requires
+job-of-requires c κs = search needs
 
-u32-at-requires-2 : tie.Need-u32-at-requires-2
-u32-at-requires-2 c κs = search needs
+revision-of-requires : tie.Need-revision-of-requires
+revision-of-requires c κs = search needs
 
 fill-conflict-requires : tie.Need-fill-conflict-requires
 fill-conflict-requires c κs = search needs
@@ -40,44 +42,55 @@ fill-conflict-requires c κs = search needs
 same-length : tie.Need-same-length
 same-length c = search needs
 
--- what is held after the change that was found
-becomes : (c : tie.After-change-of) (r : Change) → c .change-of .result ≡ r → let a = c .before .before .before .before .args in
-    changed r (contentOf (a .slot .now)) (a .message .now) ≡ joined (contentOf (a .slot .now)) (a .message .now)
-becomes c r e =
-    let a = c .before .before .before .before .args in
-    ap (λ (x : Change). changed x (contentOf (a .slot .now)) (a .message .now)) (sym e) ∙ c .change-of .ensures
+-- the slot, the record that comes in, and that the slot is one
+abbrev slot-at : tie.After-change-of → List ℕ
+slot-at c = c .before .before .before .before .args .slot .now
 
--- a slot has the size of one
-sized : (s : List ℕ) → s ≡ slotOf (contentOf s) → length s ≡ 528
-sized s e = ap length e ∙ padded-length 528 (contentOf s)
+abbrev message-at : tie.After-change-of → List ℕ
+message-at c = c .before .before .before .before .args .message .now
+
+ready : (c : tie.After-change-of) → slot-at c ≡ slotOf (contentOf (slot-at c))
+ready c = c .before .before .before .before .pre
+
+-- it has the size of one
+sized : (c : tie.After-change-of) → length (slot-at c) ≡ answerRoom
+sized c = ap length (ready c) ∙ padded-length answerRoom (contentOf (slot-at c))
+
+-- what is held after the change that was found
+becomes : (c : tie.After-change-of) (r : Change) → c .change-of .result ≡ r →
+    changed r (contentOf (slot-at c)) (message-at c) ≡ joined (contentOf (slot-at c)) (message-at c)
+becomes c r e = ap (λ (x : Change). changed x (contentOf (slot-at c)) (message-at c)) (sym e) ∙ c .change-of .ensures
 
 returns : tie.Need-returns
 returns c =
-    let s = c .before .before .before .before .before .before in
-    s .pre ∙ ap slotOf (becomes (c .before .before) Nothing (c .enum-told .given .1))
+    let found = c .before .before in
+    ready found ∙ ap slotOf (becomes found Nothing (c .enum-told .given .1))
 
 same-length-2 : tie.Need-same-length-2
 same-length-2 c = search needs
 
 returns-2 : tie.Need-returns-2
 returns-2 c =
-    let k = c .before .before .before .before in
-    let s = k .before .before .before .before .before .before in
-    c .before .before .fill .ensures
-    ∙ ap (λ (n : ℕ). padded n (s .args .message .now)) (sized (s .args .slot .now) (s .pre))
-    ∙ ap slotOf (becomes (k .before .before) Replaced (k .enum-told2 .given .1))
+    let filled = c .before .before in
+    let told = filled .before .before in
+    let found = told .before .before in
+    filled .fill .ensures
+    ∙ ap (λ (n : ℕ). padded n (message-at found)) (sized found)
+    ∙ ap slotOf (becomes found Replaced (told .enum-told2 .given .1))
 
 same-length-3 : tie.Need-same-length-3
 same-length-3 c = search needs
 
 returns-3 : tie.Need-returns-3
 returns-3 c =
-    let k = c .before .before .before .before .before .before in
-    let s = k .before .before .before .before .before .before in
-    let u = c .before .before .before in
-    c .before .before .fill-conflict .ensures
-    ∙ ap (λ (n : ℕ). padded n (conflictBytes (u .before .u32-at .result) (u .u32-at2 .result))) (sized (s .args .slot .now) (s .pre))
-    ∙ ap slotOf (rw (u .before .u32-at .ensures, u .u32-at2 .ensures) (becomes (k .before .before) Conflict (k .enum-told3 .given .1)))
+    let filled = c .before .before in
+    let revision = filled .before in
+    let job = revision .before in
+    let told = job .before .before in
+    let found = told .before .before in
+    filled .fill-conflict .ensures
+    ∙ ap (λ (n : ℕ). padded n (conflictBytes (job .job-of .result) (revision .revision-of .result))) (sized found)
+    ∙ ap slotOf (rw (job .job-of .ensures, revision .revision-of .ensures) (becomes found Conflict (told .enum-told3 .given .1)))
 
 pub join-spec : {M : Type 1} → statement M
 join-spec =
@@ -88,8 +101,8 @@ join-spec =
     enum-told-2
     fill-requires
     enum-told-3
-    u32-at-requires
-    u32-at-requires-2
+    job-of-requires
+    revision-of-requires
     fill-conflict-requires
     same-length
     returns

@@ -1,9 +1,11 @@
--- `move_up` meets its contract: the bytes from i on have been moved, which is `movedUp` from i; the measure is how far i still is from the first.
+-- `move_up` meets its contract. The loop's invariant: the bytes from i on have been moved, which is `movedUp` from i. The measure is how far i
+-- still is from the first.
 use mathlib.Core.Path.{_≡_, sym, ap, _∙_}
 use mathlib.Core.List.{List}
 use Prim.Native.Nat.{ℕ, suc, _+_, _-_, _≤_}
 use native.Mathlib.Omega.{arith}
 use lib.ListN.{length, getD, set}
+use Rattle.records.specs.Layout.{answerRoom}
 use Rattle.board.specs.Internals.{movedUp}
 use Rattle.board.proofs.Moved.{move-none, move-length, move-next}
 use Rattle.board.proofs.moves.move_up.Statement.{statement}
@@ -49,7 +51,7 @@ loop-again c =
       omega arith,
       (
         omega arith,
-        ap (λ (s : List ℕ). set s (i + 528) (getD s i 0)) moved ∙ move-next i (a .to) (a .board .now) (omega arith) (omega arith),
+        ap (λ (s : List ℕ). set s (i + answerRoom) (getD s i 0)) moved ∙ move-next i (a .to) (a .board .now) (omega arith) (omega arith),
       ),
     )
 

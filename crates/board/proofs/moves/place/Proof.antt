@@ -7,49 +7,64 @@ use borrow.Author.Needs.{needs}
 use borrow.Rule.Slice.PartMut.{putMid}
 use lib.ListN.{length, take, drop, length-drop}
 use lib.Seq.{length-take-le}
+use Rattle.records.specs.Layout.{answerRoom}
 use Rattle.slots.specs.Slots.{padded, slotOf, contentOf}
 use Rattle.board.specs.declared.moves.Route.{Route}
 use Rattle.board.specs.declared.moves.Route.the-variants.{Joins, Enters, NoneFree}
-use Rattle.board.specs.Board.{joined}
+use Rattle.board.specs.Board.{boardSize, joined}
 use Rattle.board.specs.Internals.{routeOf, movedUp}
 use Rattle.board.proofs.Moved.{move-length}
 use Rattle.board.proofs.Entered.{JoinsAt, EntersAt, Goes, goes, board-size}
 use Rattle.board.proofs.moves.place.Statement.{statement}
 use Rattle.board.proofs.moves.place.Tie as tie
 
-u32-at-requires : tie.Need-u32-at-requires
-u32-at-requires c κs = search needs
+job-of-requires : tie.Need-job-of-requires
+job-of-requires c κs = search needs
 
 route-of-requires : tie.Need-route-of-requires
-route-of-requires c κs = board-size (c .before .before .before .before .args .board .now) (c .before .before .before .before .pre)
+route-of-requires c κs =
+    let s = c .before .before .before .before in
+    board-size (s .args .board .now) (s .pre)
 
 enum-known-from : tie.Need-enum-known-from
 enum-known-from c = search needs
 
--- the route that was found, and what it leads to
-leads : (c : tie.After-route-of) (w : Route) → c .route-of .result ≡ w → let a = c .before .before .before .before .before .args in Goes (a .board .now) (a .message .now) w
-leads c w e =
-    let s = c .before .before .before .before .before in
-    let route = ap (λ (job : ℕ). routeOf (s .args .board .now) job) (sym (c .before .u32-at .ensures)) ∙ sym (c .route-of .ensures) ∙ e in
-    subst (Goes (s .args .board .now) (s .args .message .now)) route (goes (s .args .board .now) (s .args .message .now) (s .pre))
-
-size : (c : tie.After-route-of) → length (c .before .before .before .before .before .args .board .now) ≡ 33792
-size c = let s = c .before .before .before .before .before in board-size (s .args .board .now) (s .pre)
-
-part : (from : ℕ) → from + 528 - from ≡ 528
-part from = omega arith
-
+-- the board, its size, and the record that comes in
 abbrev board-at : tie.After-route-of → List ℕ
 board-at c = c .before .before .before .before .before .args .board .now
 
 abbrev message-at : tie.After-route-of → List ℕ
 message-at c = c .before .before .before .before .before .args .message .now
 
-joins : (c : tie.After-from) → JoinsAt (board-at (c .before .before)) (message-at (c .before .before)) (c .from .given .0 .0)
-joins c = leads (c .before .before) (Joins (c .from .given .0 .0)) (c .from .given .1)
+size : (c : tie.After-route-of) → length (board-at c) ≡ boardSize
+size c = board-size (board-at c) (c .before .before .before .before .before .pre)
 
-enters : (c : tie.After-from2) → EntersAt (board-at (c .before .before)) (message-at (c .before .before)) (c .from2 .given .0 .0) (c .from2 .given .0 .1 .0)
-enters c = leads (c .before .before) (Enters (c .from2 .given .0 .0) (c .from2 .given .0 .1 .0)) (c .from2 .given .1)
+-- the route that was found, and what it leads to
+leads : (c : tie.After-route-of) (w : Route) → c .route-of .result ≡ w → Goes (board-at c) (message-at c) w
+leads c w e =
+    let read = c .before in
+    let board = read .before .before .before .before .pre in
+    let route = ap (routeOf (board-at c)) (sym (read .job-of .ensures)) ∙ sym (c .route-of .ensures) ∙ e in
+    subst (Goes (board-at c) (message-at c)) route (goes (board-at c) (message-at c) board)
+
+part : (from : ℕ) → from + answerRoom - from ≡ answerRoom
+part from = omega arith
+
+-- the places that a route tells
+abbrev from-at : tie.After-from → ℕ
+from-at c = c .from .given .0 .0
+
+abbrev from2-at : tie.After-from2 → ℕ
+from2-at c = c .from2 .given .0 .0
+
+abbrev end-at : tie.After-from2 → ℕ
+end-at c = c .from2 .given .0 .1 .0
+
+joins : (c : tie.After-from) → JoinsAt (board-at (c .before .before)) (message-at (c .before .before)) (from-at c)
+joins c = leads (c .before .before) (Joins (from-at c)) (c .from .given .1)
+
+enters : (c : tie.After-from2) → EntersAt (board-at (c .before .before)) (message-at (c .before .before)) (from2-at c) (end-at c)
+enters c = leads (c .before .before) (Enters (from2-at c) (end-at c)) (c .from2 .given .1)
 
 add-to : tie.Need-add-to
 add-to c = omega (arith, joins (c .before) .fits)
@@ -64,7 +79,7 @@ part-join-end : tie.Need-part-join-end
 part-join-end c = omega (arith, joins (c .before) .fits, size (c .before .before .before))
 
 join-requires : tie.Need-join-requires
-join-requires c κs = rw (part (c .before .before .from .given .0 .0)) (joins (c .before .before) .ready)
+join-requires c κs = rw (part (from-at (c .before .before))) (joins (c .before .before) .ready)
 
 enum-known-from-2 : tie.Need-enum-known-from-2
 enum-known-from-2 c = search needs
@@ -83,19 +98,29 @@ sub-fill c = search needs
 part-fill-start : tie.Need-part-fill-start
 part-fill-start c = search needs
 
--- the bytes once some were moved, and their number
-moved : (c : tie.After-move-up) → let f = c .before .before .before in c .move-up .last .0 ≡ movedUp (f .from2 .given .0 .0) (f .from2 .given .0 .1 .0) (board-at (f .before .before))
+-- the route that the bytes were moved by, the bytes then, and their number
+abbrev told-at : tie.After-move-up → tie.After-from2
+told-at c = c .before .before .before
+
+moved : (c : tie.After-move-up) →
+    let told = told-at c in
+    c .move-up .last .0 ≡ movedUp (from2-at told) (end-at told) (board-at (told .before .before))
 moved c = c .move-up .ensures
 
-moved-size : (c : tie.After-move-up) → length (c .move-up .last .0) ≡ 33792
+moved-size : (c : tie.After-move-up) → length (c .move-up .last .0) ≡ boardSize
 moved-size c =
-    let f = c .before .before .before in
-    let e = enters f in
-    let w = f .before .before in
-    ap length (moved c) ∙ move-length (f .from2 .given .0 .0) (f .from2 .given .0 .1 .0) (board-at w) (e .rising) (omega (arith, e .fits, size w)) ∙ size w
+    let told = told-at c in
+    let e = enters told in
+    let found = told .before .before in
+    ap length (moved c)
+    ∙ move-length (from2-at told) (end-at told) (board-at found) (e .rising) (omega (arith, e .fits, size found))
+    ∙ size found
 
 part-fill-end : tie.Need-part-fill-end
-part-fill-end c = omega (arith, enters (c .before .before .before .before .before) .rising, enters (c .before .before .before .before .before) .fits, moved-size (c .before .before))
+part-fill-end c =
+    let up = c .before .before in
+    let e = enters (told-at up) in
+    omega (arith, e .rising, e .fits, moved-size up)
 
 fill-requires : tie.Need-fill-requires
 fill-requires c κs = search needs
@@ -108,12 +133,14 @@ same-length c = search needs
 
 returns : tie.Need-returns
 returns c =
-    let f = c .before .before .before .before .before in
-    let from = f .from .given .0 .0 in
-    let b = board-at (f .before .before) in
-    let m = message-at (f .before .before) in
-    let s = c .before .before .join .last .0 in
-    let done = joins f .done s (c .before .before .join .ensures ∙ ap (λ (n : ℕ). slotOf (joined (contentOf (take n (drop from b))) m)) (part from)) in
+    let joined-slot = c .before .before in
+    let told = joined-slot .before .before .before in
+    let found = told .before .before in
+    let from = from-at told in
+    let b = board-at found in
+    let s = joined-slot .join .last .0 in
+    let slot = ap (λ (n : ℕ). slotOf (joined (contentOf (take n (drop from b))) (message-at found))) (part from) in
+    let done = joins told .done s (joined-slot .join .ensures ∙ slot) in
     (done .0, ap (λ (n : ℕ). putMid from n b s) (part from) ∙ done .1)
 
 same-length-2 : tie.Need-same-length-2
@@ -121,21 +148,23 @@ same-length-2 c = search needs
 
 returns-2 : tie.Need-returns-2
 returns-2 c =
-    let u = c .before .before .before .before .before .before in
-    let f = u .before .before .before in
-    let from = f .from2 .given .0 .0 in
-    let b = board-at (f .before .before) in
-    let m = message-at (f .before .before) in
-    let l = u .move-up .last .0 in
-    let e = enters f in
-    let s = c .before .before .fill .last .0 in
-    let long : length (take (from + 528 - from) (drop from l)) ≡ 528 =
-    ap (λ (n : ℕ). length (take n (drop from l))) (part from) ∙ length-take-le 528 (drop from l) (omega (arith, length-drop from l, moved-size u, e .rising, e .fits)) in
-    let filled : s ≡ slotOf m = c .before .before .fill .ensures ∙ ap (λ (n : ℕ). padded n m) long in (
+    let entered = c .before .before in
+    let up = entered .before .before .before .before in
+    let told = told-at up in
+    let found = told .before .before in
+    let from = from2-at told in
+    let m = message-at found in
+    let l = up .move-up .last .0 in
+    let e = enters told in
+    let s = entered .fill .last .0 in
+    let whole = length-take-le answerRoom (drop from l) (omega (arith, length-drop from l, moved-size up, e .rising, e .fits)) in
+    let long : length (take (from + answerRoom - from) (drop from l)) ≡ answerRoom =
+    ap (λ (n : ℕ). length (take n (drop from l))) (part from) ∙ whole in
+    let filled : s ≡ slotOf m = entered .fill .ensures ∙ ap (λ (n : ℕ). padded n m) long in (
       e .done .0,
       ap (λ (n : ℕ). putMid from n l s) (part from)
-          ∙ ap (λ (x : List ℕ). putMid from 528 x s) (moved u)
-          ∙ ap (putMid from 528 (movedUp from (f .from2 .given .0 .1 .0) b)) filled
+          ∙ ap (λ (x : List ℕ). putMid from answerRoom x s) (moved up)
+          ∙ ap (putMid from answerRoom (movedUp from (end-at told) (board-at found))) filled
           ∙ e .done .1,
     )
 
@@ -149,7 +178,7 @@ pub place-spec : {M : Type 1} → statement M
 place-spec =
     tie.close
     (tie.spec
-    u32-at-requires
+    job-of-requires
     route-of-requires
     enum-known-from
     add-to
