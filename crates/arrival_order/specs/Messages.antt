@@ -7,12 +7,8 @@ use mathlib.Core.Logic.{_⊎_}
 use lib.ListN.{length, getD}
 use Rattle.outcomes.specs.Outcomes.{jobOf, revisionOf, isOutcome}
 use Rattle.slots.specs.Slots.{conflictBytes}
-use Rattle.board.specs.Board.{SLOTS, isBoard, heldOn, boardOf, postOf}
-
--- the board after messages that come one after another
-unfoldable pub postAll : List ℕ → List (List ℕ) → List ℕ
-postAll b [] = b
-postAll b (m ∷ ms) = postAll (postOf b m .board) ms
+use Rattle.board.specs.Board.{SLOTS, isBoard, heldOn, boardOf}
+unfoldable pub use Rattle.board.specs.Posting.{postAll}
 
 -- bytes that stand in a list of such
 infix 20 _∈_

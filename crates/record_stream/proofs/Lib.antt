@@ -1,0 +1,3 @@
+mod Words
+pub mod Starts
+pub mod Streams

@@ -1,0 +1,91 @@
+-- The records of an input, said without their count: none of an empty one (`no-records`), and a record that is as long as its
+-- length says comes before those of what follows it (`record-first`). And the steps make the whole: by what stands first, the
+-- board so far is written, or nothing, or the record is posted and the rest of the input follows (`by-steps`).
+use mathlib.Core.Path.{_≡_, refl, sym, ap, _∙_}
+use mathlib.Core.Bool.{Bool, true, false, cond}
+use mathlib.Core.List.{List, [], _∷_, _++_}
+use Prim.Native.Nat.{ℕ, zero, suc, _+_, _≤_}
+use native.Mathlib.Omega.{arith}
+use lib.ListN.{length, take, drop, length-drop, length-append}
+use lib.Seq.{take-append-seam, drop-append-seam, take-append-le, length-take-le}
+use Rattle.little_endian.proofs.Same.{number-take}
+use Rattle.records.specs.Layout.{LENGTH, answerRoom, valueOf}
+use Rattle.board.specs.Board.{postOf}
+use Rattle.board.specs.Posting.{postAll}
+use Rattle.record_stream.specs.declared.Start.{Start}
+use Rattle.record_stream.specs.declared.Start.the-variants.{End, Record, NoRecord}
+use Rattle.record_stream.proofs.Starts.{followed}
+use Rattle.record_stream.specs.Streams.{startOf, Stream, streamFrom, streamIn, streamOf, boardAfter, boardStep}
+
+-- what stands first in an input
+abbrev pub startIn : List ℕ → Start
+startIn input = startOf (take (LENGTH .width) input)
+
+-- ---- as many records as bytes are all
+
+no-more : (n : ℕ) → streamIn n [] ≡ record { records = []; whole = true }
+unfolding streamIn startOf
+no-more zero = refl
+no-more (suc n) = refl
+
+-- the stream from a place on depends on later places alone
+later-same : (start : Start) (b : ℕ) (bs : List ℕ) (f g : List ℕ → Stream) →
+    ((input : List ℕ) → length input ≤ length bs → f input ≡ g input) → streamFrom start (b ∷ bs) f ≡ streamFrom start (b ∷ bs) g
+later-same End b bs f g h = refl
+later-same NoRecord b bs f g h = refl
+later-same (Record rest) b bs f g h =
+    let size = LENGTH .width + rest in
+    let after = drop size (b ∷ bs) in
+    let less : length after ≤ length bs = omega (arith, length-drop size (b ∷ bs)) in
+    ap (λ (s : Stream). record { records = take size (b ∷ bs) ∷ s .records; whole = s .whole }) (h after less)
+
+enough : (m n : ℕ) (input : List ℕ) → length input ≤ m → length input ≤ n → streamIn m input ≡ streamIn n input
+unfolding streamIn
+enough zero n [] h k = sym (no-more n)
+enough zero n (b ∷ bs) h k = absurd (omega arith)
+enough (suc m) zero [] h k = no-more (suc m)
+enough (suc m) zero (b ∷ bs) h k = absurd (omega arith)
+enough (suc m) (suc n) [] h k = no-more (suc m) ∙ sym (no-more (suc n))
+enough (suc m) (suc n) (b ∷ bs) h k =
+    later-same (startIn (b ∷ bs)) b bs (streamIn m) (streamIn n) (λ input l. enough m n input (omega arith) (omega arith))
+
+-- ---- the records
+
+pub no-records : streamOf [] ≡ record { records = []; whole = true }
+unfolding streamOf
+no-records = no-more 0
+
+-- the stream of an input, by what stands first in it
+pub by-first : (input : List ℕ) → streamOf input ≡ streamFrom (startIn input) input streamOf
+unfolding streamOf streamIn startOf
+by-first [] = refl
+by-first (b ∷ bs) = later-same (startIn (b ∷ bs)) b bs (streamIn (length bs)) streamOf (λ input l. enough (length bs) (length input) input l (omega arith))
+
+pub record-first : (message rest : List ℕ) → length message ≡ LENGTH .width + valueOf LENGTH message → length message ≤ answerRoom →
+    streamOf (message ++ rest) ≡ record { records = message ∷ streamOf rest .records; whole = streamOf rest .whole }
+record-first message rest sized fits =
+    let head = take (LENGTH .width) message in
+    let four : length head ≡ LENGTH .width = length-take-le (LENGTH .width) message (omega (arith, sized)) in
+    let value : valueOf LENGTH head ≡ valueOf LENGTH message = number-take 4 4 0 message (omega arith) in
+    let start : startIn (message ++ rest) ≡ Record (valueOf LENGTH message) =
+    ap startOf (take-append-le (LENGTH .width) message rest (omega (arith, sized)))
+    ∙ sym (followed head (λ z. omega (arith, four, z)) (omega (arith, four)) (omega (arith, value, sized, fits)))
+    ∙ ap Record value in
+    by-first (message ++ rest) ∙ ap (λ (s : Start). streamFrom s (message ++ rest) streamOf) start ∙ seam
+  where
+    seam : streamFrom (Record (valueOf LENGTH message)) (message ++ rest) streamOf ≡ record { records = message ∷ streamOf rest .records; whole = streamOf rest .whole }
+    seam =
+        let front : take (LENGTH .width + valueOf LENGTH message) (message ++ rest) ≡ message = rw (sym sized) (take-append-seam message rest) in
+        let behind : drop (LENGTH .width + valueOf LENGTH message) (message ++ rest) ≡ rest = rw (sym sized) (drop-append-seam message rest) in
+        rw (front, behind)
+
+-- ---- the steps make the whole
+
+by-start : (start : Start) (board input : List ℕ) → streamOf input ≡ streamFrom start input streamOf → boardAfter board input ≡ boardStep start board input
+unfolding boardAfter postAll
+by-start End board input is = rw is refl
+by-start NoRecord board input is = rw is refl
+by-start (Record rest) board input is = rw is refl
+
+pub by-steps : (board input : List ℕ) → boardAfter board input ≡ boardStep (startIn input) board input
+by-steps board input = by-start (startIn input) board input (by-first input)

@@ -1,0 +1,27 @@
+-- Why a record is refused, in words, as bytes. Definitions only.
+use Prim.Native.Nat.{ℕ}
+use Prim.Native.Char.{code}
+use Prim.Native.String.{String, [] as end, _∷_ as _then_}
+use mathlib.Core.Bool.{cond}
+use mathlib.Core.List.{List, [], _∷_}
+use lib.Dec.{eqb}
+
+-- the bytes of a text in ASCII
+unfoldable pub textBytes : String → List ℕ
+textBytes end = []
+textBytes (c then text) = code c ∷ textBytes text
+
+-- B0 to B3, by their numbers
+unfoldable pub reasonOf : ℕ → List ℕ
+reasonOf number =
+    cond (eqb number 0) (textBytes "B0: the board is not one")
+    (cond (eqb number 1) (textBytes "B1: it is malformed")
+    (cond (eqb number 2) (textBytes "B2: its job is 0") (textBytes "B3: no slot is free for a new job")))
+
+-- a length that no record has
+unfoldable pub lengthReason : List ℕ
+lengthReason = textBytes "B1: no record has its length, so nothing tells where the next starts, and no board is written"
+
+-- room for the longest of these
+abbrev pub reasonRoom : ℕ
+reasonRoom = 93

@@ -1,0 +1,40 @@
+// Records that come one after another: where each ends, by its own length, and why one is refused, in words.
+ghost use mathlib.Core.Path.{_≡_};
+ghost use Rattle.record_stream.specs.Streams.{startOf};
+
+mod reasons;
+
+use little_endian::u32_at;
+pub use reasons::REASON_ROOM;
+pub use reasons::length_reason;
+pub use reasons::reason_of;
+use records::ANSWER_ROOM;
+use records::LENGTH_SIZE;
+
+// The most bytes that follow the length of a record.
+const LONGEST_REST: usize = ANSWER_ROOM - LENGTH_SIZE;
+
+// What stands at a place of the input: its end; a record, and how many bytes of it follow those that were looked at; or a
+// length that no record has, so that nothing tells where the next record starts.
+pub enum Start {
+    End,
+    Record(usize),
+    NoRecord,
+}
+
+// What stands where some bytes were read, no more than a length has. Fewer are the input's end.
+pub fn start_of(head: &[u8]) -> Start
+    ensures { λ r. ⌜ r ≡ startOf (now (head .entry)) ⌝ }
+{
+    if head.len() == 0 {
+        return Start::End;
+    }
+    if head.len() < LENGTH_SIZE {
+        return Start::Record(0);
+    }
+    let rest = u32_at(head, 0) as usize;
+    if LONGEST_REST < rest {
+        return Start::NoRecord;
+    }
+    Start::Record(rest)
+}

@@ -1,0 +1,49 @@
+// Why a record is refused, in words.
+ghost use mathlib.Core.Path.{_≡_};
+ghost use Prim.Native.Nat.{_≤_};
+ghost use lib.ListN.{length, take};
+ghost use Rattle.io.specs.Counts.{Counts};
+ghost use Rattle.slots.specs.Slots.{padded};
+ghost use Rattle.record_stream.specs.Reasons.{reasonOf, lengthReason, reasonRoom};
+
+// Room for the longest reason.
+pub const REASON_ROOM: usize = 93;
+
+// Puts the reason of a refusal, B0 to B3 by its number, into a buffer, with zeros after it, and returns its length.
+pub fn reason_of(number: u8, out: &mut [u8; REASON_ROOM]) -> usize
+    ensures size { λ r. ⌜ r ≡ length (reasonOf number) ⌝ }
+    ensures buffer { λ _. ⌜ now (out .exit) ≡ padded reasonRoom (reasonOf number) ⌝ }
+    ensures within { λ r. ⌜ Counts r (now (out .exit)) ⌝ }
+    ensures words { λ r. ⌜ take r (now (out .exit)) ≡ reasonOf number ⌝ }
+{
+    match number {
+        0 => put(b"B0: the board is not one", out),
+        1 => put(b"B1: it is malformed", out),
+        2 => put(b"B2: its job is 0", out),
+        _ => put(b"B3: no slot is free for a new job", out),
+    }
+}
+
+// The same for a length that no record has.
+pub fn length_reason(out: &mut [u8; REASON_ROOM]) -> usize
+    ensures size { λ r. ⌜ r ≡ length lengthReason ⌝ }
+    ensures buffer { λ _. ⌜ now (out .exit) ≡ padded reasonRoom lengthReason ⌝ }
+    ensures within { λ r. ⌜ Counts r (now (out .exit)) ⌝ }
+    ensures words { λ r. ⌜ take r (now (out .exit)) ≡ lengthReason ⌝ }
+{
+    put(
+        b"B1: no record has its length, so nothing tells where the next starts, and no board is written",
+        out,
+    )
+}
+
+fn put(words: &[u8], out: &mut [u8; REASON_ROOM]) -> usize
+    requires { ⌜ length (now words) ≤ reasonRoom ⌝ }
+    ensures size { λ r. ⌜ r ≡ length (now (words .entry)) ⌝ }
+    ensures buffer { λ _. ⌜ now (out .exit) ≡ padded reasonRoom (now (words .entry)) ⌝ }
+    ensures within { λ r. ⌜ Counts r (now (out .exit)) ⌝ }
+    ensures words { λ r. ⌜ take r (now (out .exit)) ≡ now (words .entry) ⌝ }
+{
+    slots::fill(out, words);
+    words.len()
+}
