@@ -8,7 +8,7 @@ use native.Mathlib.Omega.{arith}
 use borrow.Author.Tests.{ltb-true, le-ltb}
 use lib.Dec.{ltb}
 use lib.ListN.{length, replicate-append-replicate}
-use Rattle.little_endian.specs.Bytes.{bytesOf, numberAt}
+use Rattle.little_endian.specs.Bytes.{AreBytes, bytesOf, numberAt}
 use Rattle.records.specs.Layout.{encode, answerRoom}
 use Rattle.outcomes.specs.Outcomes.{isSized, isRefusal, isOutcome}
 use Rattle.slots.specs.Slots.{conflictFields, conflictBytes, sameBytes}
@@ -16,7 +16,7 @@ use Rattle.slots.proofs.Padding.{padded-is}
 use Rattle.slots.proofs.Zeros.{both}
 use Rattle.board.specs.declared.Posted.the-variants.{Taken}
 use Rattle.board.specs.Board.{SLOTS, boardSize, isBoard, heldOn, boardOf, emptyBoard, joined, placed, placedOn, postOf}
-use Rattle.arrival_order.specs.Messages.{AreBytes, Postable}
+use Rattle.arrival_order.specs.Messages.{Postable}
 use Rattle.board.proofs.Boards.{zeros, slotsIn, slots-next, slots-none}
 use Rattle.arrival_order.proofs.Posting.{judged, taken-board, starts-board}
 

@@ -9,12 +9,13 @@ use Prim.Native.Nat.{ℕ, _^_, _<_}
 use native.Mathlib.Omega.{arith}
 use borrow.Author.Tests.{ltb-true, ltb-false, le-ltb}
 use lib.Dec.{ltb}
+use Rattle.little_endian.specs.Bytes.{AreBytes}
 use Rattle.outcomes.specs.Outcomes.{jobOf, revisionOf}
 use Rattle.slots.specs.Slots.{conflictBytes, isHeld, sameBytes}
 use Rattle.board.specs.Board.{joined}
-use Rattle.arrival_order.specs.Messages.{AreBytes}
 use Rattle.slots.proofs.Zeros.{same-is, same-self, differ-is}
-use Rattle.slots.proofs.Conflicts.{number-lt, conflict-job, conflict-revision, conflict-held}
+use Rattle.little_endian.proofs.Numbers.{number-lt}
+use Rattle.slots.proofs.Conflicts.{conflict-job, conflict-revision, conflict-held}
 
 -- a record's job and revision are numbers of four bytes
 pub small-job : (m : List ℕ) → AreBytes m → jobOf m < 2 ^ 32

@@ -12,10 +12,11 @@ use native.Mathlib.Omega.{arith}
 use borrow.Author.Tests.{ltb-true, ltb-false, lt-ltb, le-ltb, eqb-true, eqb-false, eq-eqb}
 use lib.Dec.{ltb, eqb}
 use lib.ListN.{length}
+use Rattle.little_endian.specs.Bytes.{AreBytes}
 use Rattle.outcomes.specs.Outcomes.{jobOf}
 use Rattle.slots.specs.Slots.{isHeld}
 use Rattle.board.specs.Board.{joined, placed, HeldRising, none, next}
-use Rattle.arrival_order.specs.Messages.{_∈_, AreBytes, SomeOf, NoneOf}
+use Rattle.arrival_order.specs.Messages.{_∈_, SomeOf, NoneOf}
 use Rattle.arrival_order.proofs.Joining.{joining, joined-job, joined-held, joined-self, joined-again}
 
 pub data Placing (new : List ℕ) : List (List ℕ) → List (List ℕ) → Type 0 where

@@ -12,11 +12,12 @@ use native.Mathlib.Omega.{arith}
 use borrow.Author.Tests.{ltb-true, ltb-false, lt-ltb, le-ltb, eqb-true, eqb-false, ne-eqb}
 use lib.Dec.{ltb, eqb}
 use lib.ListN.{length}
+use Rattle.little_endian.specs.Bytes.{AreBytes}
 use Rattle.outcomes.specs.Outcomes.{jobOf, revisionOf, isOutcome}
 use Rattle.board.specs.declared.Posted.the-variants.{Taken, Refused}
 use Rattle.board.specs.Board.{SLOTS, isBoard, heldOn, boardOf, emptyBoard, joined, placed}
 use Rattle.board.specs.Board.{Result, refused, postOf, placedOn, numberGiven, none}
-use Rattle.arrival_order.specs.Messages.{_∈_, AreBytes, AllBytes, Postable, postAll, NoneOf}
+use Rattle.arrival_order.specs.Messages.{_∈_, AllBytes, Postable, postAll, NoneOf}
 use Rattle.slots.proofs.Held.{outcome-held}
 use Rattle.board.proofs.Boards.{board-held, held-board, empty-board}
 use Rattle.arrival_order.proofs.Joining.{joining, joined-kept}

@@ -10,9 +10,10 @@ use mathlib.Core.Logic.{_⊎_, inl, inr, ⊎-elim}
 use Prim.Native.Nat.{ℕ, _<_}
 use native.Mathlib.Omega.{arith}
 use lib.ListN.{length}
+use Rattle.little_endian.specs.Bytes.{AreBytes}
 use Rattle.outcomes.specs.Outcomes.{jobOf}
 use Rattle.board.specs.Board.{SLOTS, isBoard, heldOn, emptyBoard, Result, postOf, none}
-use Rattle.arrival_order.specs.Messages.{postAll, _∈_, SameMessages, AreBytes, AllBytes, Postable}
+use Rattle.arrival_order.specs.Messages.{postAll, _∈_, SameMessages, AllBytes, Postable}
 use Rattle.arrival_order.specs.Messages.{OverFewJobs, SomeOf, NoneOf, HeldFor, BoardAfter}
 use Rattle.board.proofs.Boards.{board-held}
 use Rattle.arrival_order.proofs.Placing.{placing, grown}

@@ -4,7 +4,8 @@ use mathlib.Core.Path.{_≡_}
 use mathlib.Core.Bool.{true}
 use mathlib.Core.List.{List, [], _∷_, List·Memᴰ}
 use mathlib.Core.Logic.{_⊎_}
-use lib.ListN.{length, getD}
+use lib.ListN.{length}
+use Rattle.little_endian.specs.Bytes.{AreBytes}
 use Rattle.outcomes.specs.Outcomes.{jobOf, revisionOf, isOutcome}
 use Rattle.slots.specs.Slots.{conflictBytes}
 use Rattle.board.specs.Board.{SLOTS, isBoard, heldOn, boardOf}
@@ -27,10 +28,7 @@ pub record SameMessages (ms ns : List (List ℕ)) : Type 0 where
   pub there : (m : List ℕ) → m ∈ ms → m ∈ ns
   pub back : (m : List ℕ) → m ∈ ns → m ∈ ms
 
--- a message is bytes, as all that a slice of them holds are
-abbrev pub AreBytes : List ℕ → Type 0
-AreBytes m = (i : ℕ) → getD m i 0 < 256
-
+-- every message is bytes
 abbrev pub AllBytes : List (List ℕ) → Type 0
 AllBytes ms = (m : List ℕ) → m ∈ ms → AreBytes m
 

@@ -1,4 +1,4 @@
-mod Numbers
+pub mod Numbers
 pub mod Twos
 mod Writing
 pub mod Tabled

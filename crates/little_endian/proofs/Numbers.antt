@@ -1,12 +1,12 @@
--- Numbers of w bytes: one byte more at the low end (`more`), and how large they get (`within`, `more-lt`).
+-- Numbers of w bytes: one byte more at the low end (`more`), and how large they get (`within`, `more-lt`, and of any bytes `number-lt`).
 use mathlib.Core.Path.{_≡_, sym, ap, _∙_, subst}
 use mathlib.Core.List.{List}
-use Prim.Native.Nat.{ℕ, suc, _+_, _-_, _*_, _^_, _≤_, _<_}
+use Prim.Native.Nat.{ℕ, zero, suc, _+_, _-_, _*_, _^_, _≤_, _<_}
 use native.Mathlib.Nat.{lt-of-lt-of-le}
 use native.Mathlib.Omega.{arith}
 use lib.ListN.{getD}
 use lib.Pow.{pow-add, pow-mono}
-use Rattle.little_endian.specs.Bytes.{numberAt}
+use Rattle.little_endian.specs.Bytes.{AreBytes, numberAt}
 
 pub within : (k v : ℕ) → k ≤ 7 → v < 2 ^ (8 * k) → v < 2 ^ 56
 within k v h l = lt-of-lt-of-le l (pow-mono (eight k h))
@@ -43,3 +43,20 @@ more s at w l v b p h e f =
 
     sum : (x y : ℕ) → x * 256 + y ≡ y + 256 * x
     sum x y = omega arith
+
+-- a number of w bytes, read from any place
+pub number-lt : (w at : ℕ) (s : List ℕ) → AreBytes s → numberAt w s at < 2 ^ (8 * w)
+unfolding numberAt
+number-lt zero at s h = omega arith
+number-lt (suc w) at s h =
+    let power : 2 ^ (8 * suc w) ≡ 2 ^ (8 * w) * 2 ^ 8 = ap (λ (x : ℕ). 2 ^ x) (eight w) ∙ pow-add 2 (8 * w) 8 in
+    let byte : getD s at 0 < 256 = h at in
+    let rest : numberAt w s (at + 1) < 2 ^ (8 * w) = number-lt w (at + 1) s h in
+    subst (λ (x : ℕ). getD s at 0 + 256 * numberAt w s (at + 1) < x) (sym power)
+    (fit (2 ^ (8 * w)) (getD s at 0) (numberAt w s (at + 1)) byte rest)
+  where
+    eight : (n : ℕ) → 8 * suc n ≡ 8 * n + 8
+    eight n = omega arith
+
+    fit : (p b n : ℕ) → b < 256 → n < p → b + 256 * n < p * 2 ^ 8
+    fit p b n k l = omega arith

@@ -1,10 +1,14 @@
 -- Numbers as bytes, little-endian, and bytes laid over a buffer (01, Records on the wire). Definitions only.
-use Prim.Native.Nat.{ℕ, zero, suc, _+_, _-_, _*_, _/_, _%_, _^_}
+use Prim.Native.Nat.{ℕ, zero, suc, _+_, _-_, _*_, _/_, _%_, _^_, _<_}
 use mathlib.Core.Bool.{Bool, cond}
 use mathlib.Core.List.{List, [], _∷_, _++_}
 use lib.Dec.{leb, ltb}
 use lib.IntN.{ℤ, pos, negsuc}
 use lib.ListN.{length, getD, drop}
+
+-- each element of a list is a byte, as all that a slice of bytes holds are
+abbrev pub AreBytes : List ℕ → Type 0
+AreBytes s = (i : ℕ) → getD s i 0 < 256
 
 -- the lowest w bytes of a number, the lowest first
 unfoldable pub bytesOf : ℕ → ℕ → List ℕ
