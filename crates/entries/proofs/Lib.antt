@@ -1,2 +1,3 @@
 pub mod BracketLists
 pub mod Written
+pub mod Ends

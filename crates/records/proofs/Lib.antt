@@ -3,3 +3,4 @@ pub mod Tables
 pub mod RoundTrip
 pub mod Answers
 pub mod SingleFields
+pub mod Reading

@@ -1,0 +1,38 @@
+-- What a reader of a record's bytes finds, whatever follows them: an entry (`entry-read`) and an answer's head (`answer-head-read`).
+-- The heads of refusals and of answers fit their fields where job and revision do (`refusal-held`, `answer-held`).
+use mathlib.Core.Path.{_≡_, sym, ap, _∙_}
+use mathlib.Core.List.{List, _++_, append-assoc}
+use Prim.Native.Nat.{ℕ, _^_, _≤_, _<_}
+use native.Mathlib.Omega.{arith}
+use lib.ListN.{length, take, drop, take-append-drop}
+use Rattle.records.specs.Layout.{entrySize, mostEntries}
+use Rattle.records.specs.Records.{headOf, headBytes, refusalHeadOf, answerHeadOf, entryOf, entryBytes, entriesBytes, answerBytes}
+use Rattle.records.specs.Ranges.{HeadHeld, EntryHeld}
+use Rattle.records.specs.declared.Entry.{Entry}
+use Rattle.records.proofs.RoundTrip.{head-back, entry-back}
+
+-- bytes that begin with an entry's are read as that entry
+pub entry-read : (l : List ℕ) (e : Entry) → take entrySize l ≡ entryBytes e → EntryHeld e → entryOf l ≡ e
+entry-read l e t h =
+    let parts : l ≡ entryBytes e ++ drop entrySize l =
+    sym (take-append-drop entrySize l) ∙ ap (λ (x : List ℕ). x ++ drop entrySize l) t in
+    ap entryOf parts ∙ entry-back e (drop entrySize l) h
+
+module _ (job revision : ℕ) where
+  pub answer-head-read : (es : List Entry) (after : List ℕ) → HeadHeld (answerHeadOf job revision (length es)) →
+      headOf (answerBytes job revision es ++ after) ≡ answerHeadOf job revision (length es)
+  unfolding answerBytes
+  answer-head-read es after h =
+      let head = answerHeadOf job revision (length es) in
+      ap headOf (append-assoc (headBytes head) (entriesBytes es) after) ∙ head-back head (entriesBytes es ++ after) h
+
+  module _ (small-job : job < 2 ^ 32) (small-revision : revision < 2 ^ 32) where
+    pub refusal-held : (number : ℕ) → number < 2 ^ 16 → HeadHeld (refusalHeadOf job revision number)
+    unfolding refusalHeadOf
+    refusal-held number small =
+        record { length = omega arith; kind = omega arith; job = small-job; revision = small-revision; number = small }
+
+    pub answer-held : (n : ℕ) → n ≤ mostEntries → HeadHeld (answerHeadOf job revision n)
+    unfolding answerHeadOf
+    answer-held n few =
+        record { length = omega arith; kind = omega arith; job = small-job; revision = small-revision; number = omega arith }
