@@ -12,10 +12,13 @@ use lib.ListN.{length, getD, take, drop, List·getD-map, length-map}
 use Rattle.geometry.specs.Triangles.{shapeOf}
 use Rattle.geometry.specs.declared.Shape.{Shape}
 use Rattle.little_endian.specs.Bytes.{written}
-use Rattle.records.specs.Records.{questionOf, entryBytes, answerBytes}
+use Rattle.records.specs.Layout.{answerSize}
+use Rattle.records.specs.Records.{questionOf, headOf, answerHeadOf, entryBytes, answerBytes}
+use Rattle.records.specs.Ranges.{HeadHeld}
 use Rattle.records.specs.declared.Question.{Question}
 use Rattle.records.specs.declared.Entry.{Entry}
 use Rattle.records.proofs.Answers.{answer-length}
+use Rattle.records.proofs.Reading.{entry-read, answer-head-read}
 use Rattle.entrance.specs.Judge.{Check, checks, longWay, firstOf, problemOf, judgeOf}
 use Rattle.entrance.specs.Table.{appliesIn, conditionOf, First, Exactly}
 use Rattle.entrance.specs.declared.Problem.{Problem}
@@ -43,6 +46,7 @@ use Rattle.solution.proofs.Numbering.{rows, rows-are}
 use Rattle.demand.proofs.RowFacts.{is-none, is-eleven, is-twelve, is-thirteen, is-fourteen, only-four, first-append}
 use Rattle.little_endian.proofs.Laid.{laid}
 use Rattle.solver.proofs.Recorded.{apart}
+use Rattle.demand.proofs.ReadBack.{entry-held, head-held, listed-at}
 use Rattle.demand.proofs.Answered.{entry-place, entries-pairs, each-finite, finite-each, finite-not, finite-is, timed-at, void-at, at-void, counts-crosses, crosses-counts, bracket-of, chosen-by, lower-of, halvings-of}
 
 module _ (s b : List ℕ) where
@@ -243,6 +247,25 @@ module _ (s b : List ℕ) where
         ∙ ap (λ (k : ℕ). answerBytes (p .job) (p .revision) (entriesOf p) ++ drop k b) long
         ∙ ap (λ (es : List Entry). answerBytes (p .job) (p .revision) es ++ drop (16 + 64 * n) b) (entries-pairs p)
 
+    entry-is : (n : ℕ) → N ≡ 0 → length (entriesOf p) ≡ n → (k : ℕ) → k < n →
+        take 64 (drop (16 + 64 * k) (solveOf s b .buffer)) ≡ entryBytes (entryAt p (getD (pairsOf p) k 0))
+    entry-is n z e k h =
+        let l : k < length (map (entryAt p) (pairsOf p)) = omega (arith, length-map (pairsOf p) (entryAt p), many-is n e, h) in
+        ap (λ (x : List ℕ). take 64 (drop (16 + 64 * k) x)) (bytes-are n z e)
+        ∙ entry-place (p .job) (p .revision) (map (entryAt p) (pairsOf p)) (drop (16 + 64 * n) b) k (entryAt p 0) l
+        ∙ ap entryBytes (List·getD-map (entryAt p) (pairsOf p) k 0)
+
+    head-is : (n : ℕ) → N ≡ 0 → length (entriesOf p) ≡ n → HeadHeld (answerHeadOf (q .job) (q .revision) n) →
+        headOf (solveOf s b .buffer) ≡ answerHeadOf (q .job) (q .revision) n
+    unfolding problemOf
+    head-is n z e held =
+        let es = map (entryAt p) (pairsOf p) in
+        let size : length es ≡ n = length-map (pairsOf p) (entryAt p) ∙ sym (many-is n e) in
+        let own : HeadHeld (answerHeadOf (q .job) (q .revision) (length es)) = rw size held in
+        ap headOf (bytes-are n z e)
+        ∙ answer-head-read (q .job) (q .revision) es (drop (16 + 64 * n) b) own
+        ∙ ap (answerHeadOf (q .job) (q .revision)) size
+
     the-answer : (n : ℕ) → solveOf s b .outcome ≡ Answered n → Answer s b n
     the-answer n o =
         let z = answered-when n o .0 in
@@ -250,11 +273,12 @@ module _ (s b : List ℕ) where
         record {
           many = many-is n e;
           bytes = bytes-are n z e;
-          entry = λ k h.
-              let l : k < length (map (entryAt p) (pairsOf p)) = omega (arith, length-map (pairsOf p) (entryAt p), many-is n e, h) in
-              ap (λ (x : List ℕ). take 64 (drop (16 + 64 * k) x)) (bytes-are n z e)
-              ∙ entry-place (p .job) (p .revision) (map (entryAt p) (pairsOf p)) (drop (16 + 64 * n) b) k (entryAt p 0) l
-              ∙ ap entryBytes (List·getD-map (entryAt p) (pairsOf p) k 0);
+          entry = entry-is n z e;
+          entryRead = λ k h.
+              let i = getD (pairsOf p) k 0 in
+              let counts : Counts p i = pair-listed i .only (listed-at (pairsOf p) k (omega (arith, many-is n e, h))) in
+              entry-read (drop (answerSize k) (solveOf s b .buffer)) (entryAt p i) (entry-is n z e k h) (entry-held p i counts);
+          headRead = λ bytes. head-is n z e (head-held s n bytes (omega (arith, many-is n e, few z)));
         }
 
     pub demand-3 : Demand3 s b

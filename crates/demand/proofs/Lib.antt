@@ -1,5 +1,6 @@
 pub mod RowFacts
 pub mod Answered
+pub mod ReadBack
 pub mod Demand
 pub mod NeverBoth
 pub mod Whole

@@ -10,7 +10,9 @@ use lib.ListN.{length, getD, take, drop}
 use Rattle.float64.specs.Notation.{_≺_, 0F, 1F}
 use Rattle.float64.specs.Value.{finiteOf, magnitudeOf}
 use Rattle.geometry.specs.Triangles.{shapeOf}
-use Rattle.records.specs.Records.{questionOf, headBytes, entryBytes, answerBytes}
+use Rattle.little_endian.specs.Bytes.{AreBytes}
+use Rattle.records.specs.Layout.{answerSize}
+use Rattle.records.specs.Records.{questionOf, headOf, headBytes, answerHeadOf, entryOf, entryBytes, answerBytes}
 use Rattle.records.specs.declared.Entry.{Entry}
 use Rattle.entrance.specs.Judge.{Check, checks, longWay, problemOf}
 use Rattle.entrance.specs.Table.{appliesIn, conditionOf, First, Exactly}
@@ -135,6 +137,12 @@ pub record Answer (s b : List ℕ) (n : ℕ) : Type 0 where
   pub many : n ≡ length (pairsOf (problemFrom s))
   pub bytes : solveOf s b .buffer ≡ answerBytes (problemFrom s .job) (problemFrom s .revision) (map (entryAt (problemFrom s)) (pairsOf (problemFrom s))) ++ drop (16 + 64 * n) b
   pub entry : (e : ℕ) → e < n → take 64 (drop (16 + 64 * e) (solveOf s b .buffer)) ≡ entryBytes (entryAt (problemFrom s) (getD (pairsOf (problemFrom s)) e 0))
+  -- a reader of the bytes finds each pair's entry
+  pub entryRead : (e : ℕ) → e < n →
+      entryOf (drop (answerSize e) (solveOf s b .buffer)) ≡ entryAt (problemFrom s) (getD (pairsOf (problemFrom s)) e 0)
+  -- and a head with the question's job and revision and n entries. That needs s to be bytes, as all that a slice holds are: numbers above
+  -- 255 could make up a job or a revision that four bytes can't hold
+  pub headRead : AreBytes s → headOf (solveOf s b .buffer) ≡ answerHeadOf (questionOf s .job) (questionOf s .revision) n
 
 pub record Demand3 (s b : List ℕ) : Type 0 where
   pub domain : InDomain (problemFrom s)
