@@ -1,0 +1,146 @@
+-- The record of every question has one of the three forms (`record-form`): by the verdict of the entrance, and past it by the first row
+-- of 11 to 14.
+use mathlib.Core.Path.{_≡_, refl, sym, ap, _∙_, subst}
+use mathlib.Core.Bool.{Bool, true, false, cond, _||_, true≢false}
+use mathlib.Core.List.{List, [], _∷_, map, List·Memᴰ, List·Memᴰ·not-nil as in-none, List·Memᴰ·cases-cons as in-first}
+use mathlib.Core.Logic.{⊎-elim}
+use Prim.Native.Nat.{ℕ, _≤_, _<_}
+use native.Mathlib.Nat.{lt-of-not-le}
+use native.Mathlib.Omega.{arith}
+use borrow.Author.Tests.{eqb-true, eqb-false, ne-eqb}
+use lib.Dec.{eqb, ltb}
+use lib.ListN.{length, length-map}
+use Rattle.records.specs.Layout.{mostEntries}
+use Rattle.records.specs.Records.{questionOf, answerBytes}
+use Rattle.records.specs.declared.Entry.{Entry}
+use Rattle.geometry.specs.Triangles.{shapeOf}
+use Rattle.entrance.specs.Conditions.{malformed}
+use Rattle.entrance.specs.Judge.{checks, longWay, firstOf, problemOf, judgeOf}
+use Rattle.entrance.specs.Table.{appliesIn, conditionOf}
+use Rattle.entrance.specs.declared.Problem.{Problem}
+use Rattle.entrance.specs.declared.Judged.{Judged}
+use Rattle.entrance.specs.declared.Judged.the-variants.{Refused, Accepted}
+use Rattle.entrance.proofs.Table.{refused-exactly, accepted-exactly, accepted-problem, only-ten}
+use Rattle.bisection.specs.declared.Bracket.{Bracket}
+use Rattle.crossing_laws.proofs.Theorems.{length-is}
+use Rattle.entries.specs.Entries.{entryFor}
+use Rattle.entries.proofs.Ends.{entry-names}
+use Rattle.outcomes.specs.Outcomes.{firstNumber, lastNumber}
+use Rattle.solution.specs.Crossed.{sidesOf, lastStation, bracketsOf, entriesOf}
+use Rattle.solution.specs.Table.{crossingCount, anyVoid, allFinite, lateChecks}
+use Rattle.solution.specs.Solve.{longest, refusalFor, refusalBytes, recordAfter, recordOf}
+use Rattle.solution.proofs.Numbering.{rows, rows-are, few}
+use Rattle.record_laws.specs.RecordForm.{RecordForm, malformed as not-question, refusal, answer}
+
+-- ---- the rows 11 to 14
+
+-- each is after number 1 and in force
+late-number : (none void ninth finite : Bool) → (rows none void ninth finite ≡ 0 → ⊥) →
+    (firstNumber < rows none void ninth finite) × (rows none void ninth finite ≤ lastNumber)
+late-number true false ninth finite h = (omega arith, omega arith)
+late-number true true ninth finite h = (omega arith, omega arith)
+late-number false void true finite h = (omega arith, omega arith)
+late-number false void false false h = (omega arith, omega arith)
+late-number false void false true h = absurd (h refl)
+
+-- where none applies there is a crossing
+some-crossing : (none void ninth finite : Bool) → rows none void ninth finite ≡ 0 → none ≡ false
+some-crossing false void ninth finite e = refl
+some-crossing true false ninth finite e = absurd (omega (arith, e))
+some-crossing true true ninth finite e = absurd (omega (arith, e))
+
+module _ (p : Problem) where
+  size-is : length (entriesOf p) ≡ crossingCount p
+  unfolding entriesOf bracketsOf
+  size-is = length-map (bracketsOf p) (entryFor p) ∙ length-is (sidesOf p) (lastStation p)
+
+  at-least-one : firstOf (lateChecks p) ≡ 0 → 1 ≤ length (entriesOf p)
+  at-least-one e =
+      let row = sym (rows-are p) ∙ e in
+      let some = some-crossing (eqb (crossingCount p) 0) (anyVoid p) (ltb mostEntries (crossingCount p)) (allFinite p) row in
+      lt-of-not-le (λ h. eqb-false (crossingCount p) 0 some (omega (arith, h, size-is)))
+
+  at-most-eight : firstOf (lateChecks p) ≡ 0 → length (entriesOf p) ≤ mostEntries
+  at-most-eight e = omega (arith, few p e, size-is)
+
+  late-between : (firstOf (lateChecks p) ≡ 0 → ⊥) → (firstNumber < firstOf (lateChecks p)) × (firstOf (lateChecks p) ≤ lastNumber)
+  late-between h =
+      rw (rows-are p)
+      (late-number (eqb (crossingCount p) 0) (anyVoid p) (ltb mostEntries (crossingCount p)) (allFinite p) (λ z. h (rows-are p ∙ z)))
+
+  -- each entry names an end
+  each-names : (rs : List Bracket) (e : Entry) → List·Memᴰ e (map (entryFor p) rs) → e .chosen ≤ 1
+  each-names [] e m = absurd (in-none m)
+  each-names (r ∷ rs) e m = ⊎-elim (λ here. rw here (entry-names p r)) (λ there. each-names rs e there) (in-first m)
+
+  all-name : (e : Entry) → List·Memᴰ e (entriesOf p) → e .chosen ≤ 1
+  unfolding entriesOf
+  all-name = each-names (bracketsOf p)
+
+-- ---- past number 1
+
+or-true : (a : Bool) → a || true ≡ true
+or-true true = refl
+or-true false = refl
+
+module _ (s : List ℕ) where
+  -- job 0 is malformed, so that a question past number 1 has another
+  zero-malformed : questionOf s .job ≡ 0 → conditionOf s longest 1 ≡ true
+  unfolding conditionOf appliesIn checks malformed
+  zero-malformed e = simp (e, or-true)
+
+  past-one : conditionOf s longest 1 ≡ false → 0 < questionOf s .job
+  past-one e = lt-of-not-le (λ h. true≢false (sym (zero-malformed (omega (arith, h))) ∙ e))
+
+  -- ---- the record
+
+  refusal-form : (n : ℕ) → firstNumber < n → n ≤ lastNumber → 0 < questionOf s .job → RecordForm s (refusalBytes s n)
+  unfolding refusalFor
+  refusal-form n low high job = rw (ne-eqb n 1 (λ e. omega (arith, e, low))) (refusal n low high job)
+
+  -- the question's own problem, and the first entrance check that applies
+  abbrev own : Problem
+  own = let q = questionOf s in problemOf q (shapeOf (q .r1) (q .r2) (longWay q))
+
+  abbrev first-check : ℕ
+  first-check = let q = questionOf s in firstOf (checks (length s) longest q (shapeOf (q .r1) (q .r2) (longWay q)))
+
+  positive : (n : ℕ) → judgeOf s longest ≡ Refused n → 0 < n
+  unfolding judgeOf
+  positive n e = by (eqb first-check 0) refl e
+    where
+      by : (none : Bool) → eqb first-check 0 ≡ none → cond none (Accepted own) (Refused first-check) ≡ Refused n → 0 < n
+      by true t f = absurd (let z : _≡_ {A = ℕ} 0 1 = cc f in omega (arith, z))
+      by false t f = let same : first-check ≡ n = cc f in lt-of-not-le (λ h. eqb-false first-check 0 t (omega (arith, same, h)))
+
+  by-number : (n : ℕ) → judgeOf s longest ≡ Refused n → (one : Bool) → eqb n 1 ≡ one → RecordForm s (refusalBytes s n)
+  unfolding refusalFor
+  by-number n e true one = rw (eqb-true n 1 one) not-question
+  by-number n e false one =
+      let first = refused-exactly s longest n (positive n e) .only e in
+      let other : n ≡ 1 → ⊥ = eqb-false n 1 one in
+      let late : 1 < n = lt-of-not-le (λ h. other (omega (arith, h, positive n e))) in
+      refusal-form n late (omega (arith, only-ten s longest n (first .own) .1)) (past-one (first .none-earlier 1 late))
+
+  by-row : ((n : ℕ) → conditionOf s longest n ≡ false) → (none : Bool) → eqb (firstOf (lateChecks own)) 0 ≡ none →
+      RecordForm s (cond none (answerBytes (own .job) (own .revision) (entriesOf own)) (refusalBytes s (firstOf (lateChecks own))))
+  unfolding problemOf
+  by-row past true t =
+      let none = eqb-true (firstOf (lateChecks own)) 0 t in
+      answer (entriesOf own) (at-least-one own none) (at-most-eight own none) (all-name own) (past-one (past 1))
+  by-row past false t =
+      let number = late-between own (eqb-false (firstOf (lateChecks own)) 0 t) in
+      refusal-form (firstOf (lateChecks own)) (number .0) (number .1) (past-one (past 1))
+
+  accepted-form : judgeOf s longest ≡ Accepted own → RecordForm s (recordAfter s (Accepted own))
+  accepted-form e = by-row (accepted-exactly s longest .only e) (eqb (firstOf (lateChecks own)) 0) refl
+
+  by-verdict : (j : Judged) → judgeOf s longest ≡ j → RecordForm s (recordAfter s j)
+  by-verdict (Refused n) e = by-number n e (eqb n 1) refl
+  by-verdict (Accepted p) e =
+      let is-own : p ≡ own = accepted-problem s longest p e in
+      subst (λ (x : Problem). RecordForm s (recordAfter s (Accepted x))) (sym is-own) (accepted-form (e ∙ ap Accepted is-own))
+
+  pub record-form : RecordForm s (recordOf s)
+  unfolding recordOf
+  record-form = by-verdict (judgeOf s longest) refl

@@ -1,0 +1,89 @@
+-- The job and the revision of the record of a question that is bytes (`job-named`): by the three forms of a record, each of which reads
+-- back what its head says.
+use mathlib.Core.Path.{_≡_, refl, sym, ap, _∙_}
+use mathlib.Core.Logic.{_⊎_, inl, inr}
+use mathlib.Core.List.{List, [], append-nil}
+use Prim.Native.Nat.{ℕ, _^_, _≤_, _<_}
+use native.Mathlib.Omega.{arith}
+use lib.ListN.{length}
+use Rattle.little_endian.specs.Bytes.{AreBytes, numberAt, bytesOf}
+use Rattle.little_endian.proofs.Numbers.{number-lt}
+use Rattle.records.specs.Layout.{JOB, REVISION, mostEntries, encode, headFields}
+use Rattle.records.specs.Records.{questionOf, headOf, headBytes, refusalOf, answerHeadOf, answerBytes}
+use Rattle.records.specs.declared.Head.{Head}
+use Rattle.records.specs.declared.Entry.{Entry}
+use Rattle.records.proofs.RoundTrip.{head-back}
+use Rattle.records.proofs.Answers.{answer-head-back}
+use Rattle.records.proofs.Reading.{refusal-held, answer-held}
+use Rattle.entrance.specs.Table.{Exactly}
+use Rattle.outcomes.specs.Outcomes.{jobOf, revisionOf}
+use Rattle.solution.specs.Solve.{recordOf}
+use Rattle.record_laws.specs.RecordForm.{RecordForm, malformed, refusal, answer, notQuestion, JobNamed}
+use Rattle.record_laws.proofs.Forms.{record-form}
+
+zero-job : jobOf notQuestion ≡ 0
+unfolding headBytes refusalOf encode headFields bytesOf numberAt
+zero-job = refl
+
+module _ (s : List ℕ) (bytes : AreBytes s) where
+  -- the question's job and revision are numbers of four bytes
+  abbrev job : ℕ
+  job = questionOf s .job
+
+  abbrev revision : ℕ
+  revision = questionOf s .revision
+
+  small-job : job < 2 ^ 32
+  unfolding questionOf
+  small-job = number-lt (JOB .width) (JOB .offset) s bytes
+
+  small-revision : revision < 2 ^ 32
+  unfolding questionOf
+  small-revision = number-lt (REVISION .width) (REVISION .offset) s bytes
+
+  -- a record that names the question's own job, which is not 0, and revision
+  record Own (l : List ℕ) : Type 0 where
+    pub jobIs : jobOf l ≡ job
+    pub revisionIs : revisionOf l ≡ revision
+    pub above : 0 < job
+
+  -- one whose head names them
+  own-by : (l : List ℕ) (h : Head) → headOf l ≡ h → h .job ≡ job → h .revision ≡ revision → 0 < job → Own l
+  unfolding headOf
+  own-by l h e f g above =
+      record { jobIs = ap (λ (x : Head). x .job) e ∙ f; revisionIs = ap (λ (x : Head). x .revision) e ∙ g; above = above }
+
+  refusal-own : (n : ℕ) → n < 2 ^ 16 → 0 < job → Own (headBytes (refusalOf job revision n))
+  unfolding refusalOf
+  refusal-own n small above =
+      let h = refusalOf job revision n in
+      let held = refusal-held job revision small-job small-revision n small in
+      let back : headOf (headBytes h) ≡ h = ap headOf (sym (append-nil (headBytes h))) ∙ head-back h [] held in
+      own-by (headBytes h) h back refl refl above
+
+  answer-own : (es : List Entry) → length es ≤ mostEntries → 0 < job → Own (answerBytes job revision es)
+  unfolding answerHeadOf
+  answer-own es few above =
+      let held = answer-held job revision small-job small-revision (length es) few in
+      let back = answer-head-back job revision es held in
+      own-by (answerBytes job revision es) (answerHeadOf job revision (length es)) back refl refl above
+
+  -- a record is number 1's, or names the question's own job and revision
+  either : {l : List ℕ} → RecordForm s l → (l ≡ notQuestion) ⊎ Own l
+  either malformed = inl refl
+  either (refusal n low high above) = inr (refusal-own n (omega (arith, high)) above)
+  either (answer es low high ends above) = inr (answer-own es high above)
+
+  -- what follows for the two statements
+  zero-exactly : (l : List ℕ) → (l ≡ notQuestion) ⊎ Own l → Exactly (jobOf l ≡ 0) (l ≡ notQuestion)
+  zero-exactly l (inl one) = record { only = λ e. one; always = λ e. ap jobOf e ∙ zero-job }
+  zero-exactly l (inr o) = record { only = λ e. absurd (omega (arith, e, o .jobIs, o .above)); always = λ e. ap jobOf e ∙ zero-job }
+
+  own-named : (l : List ℕ) → (l ≡ notQuestion) ⊎ Own l → (l ≡ notQuestion → ⊥) → (jobOf l ≡ job) × (revisionOf l ≡ revision)
+  own-named l (inl one) other = absurd (other one)
+  own-named l (inr o) other = (o .jobIs, o .revisionIs)
+
+  pub job-named : JobNamed s
+  job-named =
+      let which = either (record-form s) in
+      record { zeroExactly = zero-exactly (recordOf s) which; own = own-named (recordOf s) which }

@@ -1,0 +1,50 @@
+-- THE RECORD OF EVERY QUESTION is an outcome in force (`record-outcome`), so that no board refuses it with B1 (`never-malformed`): by the
+-- three forms of a record.
+use mathlib.Core.Path.{_≡_}
+use mathlib.Core.Bool.{Bool, true, false, cond, not}
+use mathlib.Core.List.{List}
+use Prim.Native.Nat.{ℕ}
+use native.Mathlib.Omega.{arith}
+use lib.Dec.{eqb, ltb}
+use lib.ListN.{length}
+use Rattle.records.specs.Records.{questionOf}
+use Rattle.outcomes.specs.Outcomes.{jobOf, isOutcome}
+use Rattle.outcomes.proofs.Written.{refusal-outcome, answer-outcome}
+use Rattle.solution.specs.Solve.{recordOf}
+use Rattle.board.specs.Board.{SLOTS, isBoard, heldOn, boardOf, placed, refused, placedOn, postOf}
+use Rattle.board.specs.declared.Posted.the-variants.{Taken, Refused}
+use Rattle.record_laws.specs.RecordForm.{RecordForm, malformed, refusal, answer}
+use Rattle.record_laws.proofs.Forms.{record-form}
+
+form-outcome : (s : List ℕ) {l : List ℕ} → RecordForm s l → isOutcome l ≡ true
+form-outcome s malformed = refusal-outcome 0 0 1 (omega arith) (omega arith)
+form-outcome s (refusal n low high above) =
+    refusal-outcome (questionOf s .job) (questionOf s .revision) n (omega (arith, low)) (omega (arith, high))
+form-outcome s (answer es low high ends above) = answer-outcome (questionOf s .job) (questionOf s .revision) es low high ends
+
+pub record-outcome : (s : List ℕ) → isOutcome (recordOf s) ≡ true
+record-outcome s = form-outcome s (record-form s)
+
+-- ---- posted on any bytes, a board or not
+
+-- the four ways of a call that are not B1: not a board, job 0, no free slot, and taken
+other-number : {P : Type 0} (n : ℕ) → (n ≡ 1 → ⊥) → Refused n ≡ Refused 1 → P
+other-number n other e = let z : n ≡ 1 = cc e in absurd (other z)
+
+module _ (b new : List ℕ) where
+  not-b1 : (board formed : Bool) → formed ≡ true → (zero full : Bool) →
+      cond (not board) (refused 0 b)
+      (cond (not formed) (refused 1 b)
+      (cond zero (refused 2 b) (cond full (refused 3 b) (record { posted = Taken; board = boardOf (placed (heldOn b) new) })))) .posted
+      ≡ Refused 1 → ⊥
+  not-b1 false formed f zero full e = other-number 0 (λ z. omega (arith, z)) e
+  not-b1 true true f true full e = other-number 2 (λ z. omega (arith, z)) e
+  not-b1 true true f false true e = other-number 3 (λ z. omega (arith, z)) e
+  not-b1 true true f false false e = let z : _≡_ {A = ℕ} 0 1 = cc e in omega (arith, z)
+  not-b1 true false f zero full e = let z : _≡_ {A = ℕ} 0 1 = cc f in omega (arith, z)
+
+pub never-malformed : (b s : List ℕ) → postOf b (recordOf s) .posted ≡ Refused 1 → ⊥
+unfolding postOf placedOn
+never-malformed b s e =
+    let new = recordOf s in
+    not-b1 b new (isBoard b) (isOutcome new) (record-outcome s) (eqb (jobOf new) 0) (ltb SLOTS (length (placed (heldOn b) new))) e
