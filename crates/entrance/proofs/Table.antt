@@ -1,5 +1,6 @@
--- THE TABLE of 01, Numbers of refusal, for 1 to 10: a number is given exactly when its own condition holds and no earlier one does (`refused-exactly`), a question is accepted exactly when none
--- holds (`accepted-exactly`), and what the ten conditions are (`the-conditions`). By induction on the list of checks, whose numbers rise.
+-- THE TABLE of 01, Numbers of refusal, for 1 to 10: a number is given exactly when its own condition holds and no
+-- earlier one does (`refused-exactly`), a question is accepted exactly when none holds (`accepted-exactly`), and what
+-- the ten conditions are (`the-conditions`). By induction on the list of checks, whose numbers rise.
 use Prim.Native.Nat.{ℕ, zero, suc, _≤_, _<_}
 use mathlib.Core.Path.{_≡_, refl, sym, ap, _∙_, subst}
 use mathlib.Core.Bool.{Bool, true, false, cond, true≢false, false≢true}
@@ -11,6 +12,7 @@ use lib.Dec.{eqb, lit<, lit≤}
 use lib.ListN.{length}
 use Rattle.geometry.specs.Triangles.{shapeOf}
 use Rattle.geometry.specs.declared.Shape.{Shape}
+use Rattle.records.specs.Layout.{answerRoom}
 use Rattle.records.specs.declared.Question.{Question}
 use Rattle.geometry.specs.Conditions.{radiusOutside, noPlane, shortChord, flatTriangle}
 use Rattle.records.specs.Records.{questionOf}
@@ -63,7 +65,8 @@ unfolding firstOf
 first-is low [] n none p e = absurd (lt-irrefl 0 (subst (λ (x : ℕ). 0 < x) (sym e) p))
 first-is low (c ∷ cs) n (more l r) p e = by (λ (f : firstOf cs ≡ n). first-is (c .number) cs n r p f) (c .applies) refl e
   where
-    by : (firstOf cs ≡ n → First (appliesIn cs) n) → (b : Bool) → c .applies ≡ b → cond b (c .number) (firstOf cs) ≡ n → First (appliesIn (c ∷ cs)) n
+    by : (firstOf cs ≡ n → First (appliesIn cs) n) → (b : Bool) → c .applies ≡ b → cond b (c .number) (firstOf cs) ≡ n
+        → First (appliesIn (c ∷ cs)) n
     by rest true h f = record {
       own = at-head c cs n f ∙ h;
       none-earlier = λ m g. past-head c cs m (λ (k : c .number ≡ m). omega arith) ∙ below (c .number) cs m r (omega arith);
@@ -115,7 +118,8 @@ unfolding firstOf appliesIn
 first-none low [] none e n = refl
 first-none low (c ∷ cs) (more l r) e n = by (λ (f : firstOf cs ≡ 0). first-none (c .number) cs r f n) (c .applies) refl e
   where
-    by : (firstOf cs ≡ 0 → appliesIn cs n ≡ false) → (b : Bool) → c .applies ≡ b → cond b (c .number) (firstOf cs) ≡ 0 → appliesIn (c ∷ cs) n ≡ false
+    by : (firstOf cs ≡ 0 → appliesIn cs n ≡ false) → (b : Bool) → c .applies ≡ b → cond b (c .number) (firstOf cs) ≡ 0
+        → appliesIn (c ∷ cs) n ≡ false
     by rest true h f = absurd (omega arith)
     by rest false h f = pick (eqb (c .number) n) refl
       where
@@ -157,12 +161,16 @@ module _ (s : List ℕ) (room : ℕ) where
   rising : Rising 0 (checks (length s) room q g)
   unfolding checks
   rising =
-      more (lit< tt) (more (lit< tt) (more (lit< tt) (more (lit< tt) (more (lit< tt) (more (lit< tt) (more (lit< tt) (more (lit< tt) (more (lit< tt) (more (lit< tt) none)))))))))
+      more (lit< tt) (more (lit< tt)
+      (more (lit< tt) (more (lit< tt)
+      (more (lit< tt) (more (lit< tt) (more (lit< tt) (more (lit< tt) (more (lit< tt) (more (lit< tt) none)))))))))
 
   to-ten : UpTo 10 (checks (length s) room q g)
   unfolding checks
   to-ten =
-      more (lit≤ tt) (more (lit≤ tt) (more (lit≤ tt) (more (lit≤ tt) (more (lit≤ tt) (more (lit≤ tt) (more (lit≤ tt) (more (lit≤ tt) (more (lit≤ tt) (more (lit≤ tt) none)))))))))
+      more (lit≤ tt) (more (lit≤ tt)
+      (more (lit≤ tt) (more (lit≤ tt)
+      (more (lit≤ tt) (more (lit≤ tt) (more (lit≤ tt) (more (lit≤ tt) (more (lit≤ tt) (more (lit≤ tt) none)))))))))
 
   pub refused-exactly : (n : ℕ) → 0 < n → Exactly (judgeOf s room ≡ Refused n) (First (conditionOf s room) n)
   unfolding judgeOf conditionOf
@@ -191,14 +199,15 @@ module _ (s : List ℕ) (room : ℕ) where
       by true f = cc
       by false f = cc
 
-  pub accepted-room : (p : Problem) → judgeOf s room ≡ Accepted p → 528 ≤ room
+  pub accepted-room : (p : Problem) → judgeOf s room ≡ Accepted p → answerRoom ≤ room
   unfolding conditionOf appliesIn checks smallBuffer
   accepted-room p e =
-      ltb-false room 528 (accepted-exactly .only (e ∙ ap Accepted (accepted-problem p e)) 7)
+      ltb-false room answerRoom (accepted-exactly .only (e ∙ ap Accepted (accepted-problem p e)) 7)
 
   -- what the ten conditions are, in the table's order
   pub the-conditions : map (conditionOf s room) (1 ∷ 2 ∷ 3 ∷ 4 ∷ 5 ∷ 6 ∷ 7 ∷ 8 ∷ 9 ∷ 10 ∷ [])
-      ≡ malformed (length s) q ∷ positionsFar q ∷ radiusOutside g ∷ muOutside q ∷ timeOutside q ∷ manyRevolutions q ∷ smallBuffer room ∷ noPlane g ∷ shortChord (g .triangle) ∷ flatTriangle (g .triangle) ∷ []
+      ≡ malformed (length s) q ∷ positionsFar q ∷ radiusOutside g ∷ muOutside q ∷ timeOutside q ∷ manyRevolutions q ∷ smallBuffer room
+      ∷ noPlane g ∷ shortChord (g .triangle) ∷ flatTriangle (g .triangle) ∷ []
   unfolding conditionOf appliesIn checks
   the-conditions = refl
 

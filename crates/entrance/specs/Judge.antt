@@ -1,4 +1,5 @@
--- From a question's bytes and the answer buffer's size to the first fault or the problem to solve (01, Numbers of refusal). Definitions only.
+-- From a question's bytes and the answer buffer's size to the first fault or the problem to solve (01, Numbers of
+-- refusal). Definitions only.
 use Prim.Native.Nat.{ℕ, zero, suc}
 use mathlib.Core.Bool.{Bool, true, false, cond}
 use mathlib.Core.List.{List, [], _∷_}
@@ -54,7 +55,6 @@ problemOf q g = record {
   revolutions = q .revolutions;
   «long_way» = longWay q;
   mu = q .mu;
-  time = q .time;
   triangle = g .triangle;
   radius1 = g .radius1;
   radius2 = g .radius2;

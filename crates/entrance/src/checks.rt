@@ -2,24 +2,39 @@
 ghost use mathlib.Core.Path.{_≡_};
 ghost use mathlib.Core.Bool.{cond};
 ghost use Rattle.geometry.specs.Conditions.{radiusOutside, noPlane, shortChord, flatTriangle};
-ghost use Rattle.entrance.specs.Conditions.{malformed, farOff, positionFar, positionsFar, muOutside, timeOutside, manyRevolutions, smallBuffer};
+ghost use Rattle.entrance.specs.Conditions.{malformed, farOff, positionFar, positionsFar, muOutside};
+ghost use Rattle.entrance.specs.Conditions.{timeOutside, manyRevolutions, smallBuffer};
 ghost use Rattle.entrance.specs.Judge.{checks, firstOf};
 use float64::Vector;
+use geometry::LARGEST_LENGTH;
 use geometry::Shape;
+use records::ANSWER_ROOM;
+use records::QUESTION_KIND;
+use records::QUESTION_LENGTH;
+use records::QUESTION_SIZE;
 use records::Question;
+
+// 2^60
+const LARGEST_MU: f64 = 1152921504606846976.0;
+
+// 2^40
+const LONGEST_TIME: f64 = 1099511627776.0;
+
+const MOST_REVOLUTIONS: u16 = 16;
 
 fn is_malformed(size: usize, q: Question) -> bool
     ensures { λ r. ⌜ r ≡ malformed size q ⌝ }
 {
-    (size != 82)
-        | ((q.length != 78) | ((q.kind != 1) | ((q.job == 0) | ((q.way > 1) | (q.spare != 0)))))
+    (size != QUESTION_SIZE)
+        | ((q.length != QUESTION_LENGTH)
+            | ((q.kind != QUESTION_KIND) | ((q.job == 0) | ((q.way > 1) | (q.spare != 0)))))
 }
 
 // Whether a component isn't finite or exceeds 2^40 in size.
 fn far_off(x: f64) -> bool
     ensures { λ r. ⌜ r ≡ farOff x ⌝ }
 {
-    !float64::is_finite(x) | (1099511627776.0 < float64::magnitude(x))
+    !float64::is_finite(x) | (LARGEST_LENGTH < float64::magnitude(x))
 }
 
 fn position_far(v: Vector) -> bool
@@ -39,25 +54,25 @@ fn positions_far(q: Question) -> bool
 fn mu_outside(q: Question) -> bool
     ensures { λ r. ⌜ r ≡ muOutside q ⌝ }
 {
-    geometry::outside(1.0, 1152921504606846976.0, q.mu)
+    geometry::outside(1.0, LARGEST_MU, q.mu)
 }
 
 fn time_outside(q: Question) -> bool
     ensures { λ r. ⌜ r ≡ timeOutside q ⌝ }
 {
-    geometry::outside(1.0, 1099511627776.0, q.time)
+    geometry::outside(1.0, LONGEST_TIME, q.time)
 }
 
 fn many_revolutions(q: Question) -> bool
     ensures { λ r. ⌜ r ≡ manyRevolutions q ⌝ }
 {
-    q.revolutions > 16
+    q.revolutions > MOST_REVOLUTIONS
 }
 
 fn small_buffer(room: usize) -> bool
     ensures { λ r. ⌜ r ≡ smallBuffer room ⌝ }
 {
-    room < 528
+    room < ANSWER_ROOM
 }
 
 // The number n where the check applies, and otherwise what the later checks gave.

@@ -1,6 +1,7 @@
 // The conditions of 3, 8, 9 and 10 on the numbers of a triangle (01, Numbers of refusal).
 ghost use mathlib.Core.Path.{_≡_};
 ghost use Rattle.geometry.specs.Conditions.{outsideOf, radiusOutside, noPlane, shortChord, flatTriangle};
+use crate::LARGEST_LENGTH;
 use crate::Shape;
 use crate::Triangle;
 use float64::is_finite;
@@ -16,7 +17,7 @@ pub fn outside(low: f64, high: f64, x: f64) -> bool
 pub fn radius_outside(shape: Shape) -> bool
     ensures { λ r. ⌜ r ≡ radiusOutside shape ⌝ }
 {
-    outside(1.0, 1099511627776.0, shape.radius1) | outside(1.0, 1099511627776.0, shape.radius2)
+    outside(1.0, LARGEST_LENGTH, shape.radius1) | outside(1.0, LARGEST_LENGTH, shape.radius2)
 }
 
 // 8: the positions span no plane, the sine of their angle being at most 2^-20.

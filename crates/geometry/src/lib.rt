@@ -21,6 +21,9 @@ use vectors::opposite;
 pub use vectors::or_nan;
 pub use vectors::root_or_nan;
 
+// The largest radius, and the largest component of a position: 2^40.
+pub const LARGEST_LENGTH: f64 = 1099511627776.0;
+
 // The numbers that the time and velocity steps share: L, s, c, ρ and σ.
 pub struct Triangle {
     pub lambda: f64,

@@ -21,14 +21,30 @@ problem-of-requires c κs = search needs
 returns : tie.Need-returns
 unfolding judgeOf
 returns c =
-    let f = c .before .before in
-    simp (sym (f .before .before .before .before .before .read-question .ensures), sym (f .before .shape-of .ensures), sym (f .first-fault .ensures), eq-eqb _ 0 (c .before .if1 .taken), sym (c .problem-of .ensures))
+    let branch = c .before in
+    let fault = branch .before in
+    let shape = fault .before in
+    let question = shape .before .before .before .before in
+    simp (
+      sym (question .read-question .ensures),
+      sym (shape .shape-of .ensures),
+      sym (fault .first-fault .ensures),
+      eq-eqb _ 0 (branch .if1 .taken),
+      sym (c .problem-of .ensures),
+    )
 
 returns-2 : tie.Need-returns-2
 unfolding judgeOf
 returns-2 c =
-    let f = c .before in
-    simp (sym (f .before .before .before .before .before .read-question .ensures), sym (f .before .shape-of .ensures), sym (f .first-fault .ensures), ne-eqb _ 0 (c .if1 .left))
+    let fault = c .before in
+    let shape = fault .before in
+    let question = shape .before .before .before .before in
+    simp (
+      sym (question .read-question .ensures),
+      sym (shape .shape-of .ensures),
+      sym (fault .first-fault .ensures),
+      ne-eqb _ 0 (c .if1 .left),
+    )
 
 pub judge-spec : {M : Type 1} → statement M
 judge-spec =

@@ -1,4 +1,5 @@
--- `checks::first_fault` meets its contract: each `pick` is a row of the table, and the rows from the fourth on are those of `number_fault` and `shape_fault`.
+-- `checks::first_fault` meets its contract: each `pick` is a row of the table, and the rows from the fourth on are
+-- those of `number_fault` and `shape_fault`.
 use Rattle.entrance.specs.Judge.{checks, firstOf}
 use borrow.Author.Needs.{needs}
 use Rattle.entrance.proofs.checks.first_fault.Statement.{statement}
@@ -30,7 +31,24 @@ pick-requires-3 c κs = search needs
 
 returns : tie.Need-returns
 unfolding firstOf checks
-returns c = simp (c .pick3 .ensures, c .before .is-malformed .ensures, c .before .before .pick2 .ensures, c .before .before .before .positions-far .ensures, c .before .before .before .before .pick .ensures, c .before .before .before .before .before .radius-outside .ensures, c .before .before .before .before .before .before .number-fault .ensures, c .before .before .before .before .before .before .before .shape-fault .ensures)
+returns c =
+    let malformed = c .before in
+    let far-picked = malformed .before in
+    let far = far-picked .before in
+    let radius-picked = far .before in
+    let radius = radius-picked .before in
+    let rest = radius .before in
+    let shape = rest .before in
+    simp (
+      c .pick3 .ensures,
+      malformed .is-malformed .ensures,
+      far-picked .pick2 .ensures,
+      far .positions-far .ensures,
+      radius-picked .pick .ensures,
+      radius .radius-outside .ensures,
+      rest .number-fault .ensures,
+      shape .shape-fault .ensures,
+    )
 
 pub first-fault-spec : {M : Type 1} → statement M
 first-fault-spec =

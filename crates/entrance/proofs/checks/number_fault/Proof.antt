@@ -28,7 +28,24 @@ pick-requires-4 : tie.Need-pick-requires-4
 pick-requires-4 c κs = search needs
 
 returns : tie.Need-returns
-returns c = simp (c .pick4 .ensures, c .before .mu-outside .ensures, c .before .before .pick3 .ensures, c .before .before .before .time-outside .ensures, c .before .before .before .before .pick2 .ensures, c .before .before .before .before .before .many-revolutions .ensures, c .before .before .before .before .before .before .pick .ensures, c .before .before .before .before .before .before .before .small-buffer .ensures)
+returns c =
+    let mu = c .before in
+    let time-picked = mu .before in
+    let time = time-picked .before in
+    let many-picked = time .before in
+    let many = many-picked .before in
+    let small-picked = many .before in
+    let small = small-picked .before in
+    simp (
+      c .pick4 .ensures,
+      mu .mu-outside .ensures,
+      time-picked .pick3 .ensures,
+      time .time-outside .ensures,
+      many-picked .pick2 .ensures,
+      many .many-revolutions .ensures,
+      small-picked .pick .ensures,
+      small .small-buffer .ensures,
+    )
 
 pub number-fault-spec : {M : Type 1} → statement M
 number-fault-spec =

@@ -22,7 +22,20 @@ pick-requires-3 : tie.Need-pick-requires-3
 pick-requires-3 c κs = search needs
 
 returns : tie.Need-returns
-returns c = simp (c .pick3 .ensures, c .before .no-plane .ensures, c .before .before .pick2 .ensures, c .before .before .before .short-chord .ensures, c .before .before .before .before .pick .ensures, c .before .before .before .before .before .flat-triangle .ensures)
+returns c =
+    let plane = c .before in
+    let short-picked = plane .before in
+    let short = short-picked .before in
+    let flat-picked = short .before in
+    let flat = flat-picked .before in
+    simp (
+      c .pick3 .ensures,
+      plane .no-plane .ensures,
+      short-picked .pick2 .ensures,
+      short .short-chord .ensures,
+      flat-picked .pick .ensures,
+      flat .flat-triangle .ensures,
+    )
 
 pub shape-fault-spec : {M : Type 1} → statement M
 shape-fault-spec =
