@@ -1,3 +1,3 @@
-pub mod BracketLists
+pub mod Lists
 pub mod Written
 pub mod Ends

@@ -1,26 +1,25 @@
--- An answer, entry by entry: what the buffer holds once its head and the first i entries are written, what one more entry makes of it, and that the last one makes the whole answer.
-use mathlib.Core.Path.{_≡_, refl, sym, ap, _∙_, subst}
-use mathlib.Core.Bool.{Bool, true, false, cond}
-use mathlib.Core.List.{List, [], _∷_, _++_, map, append-assoc, append-nil}
-use Prim.Native.Nat.{ℕ, zero, suc, _+_, _*_, _-_, _≤_, _<_}
+-- An answer, entry by entry: what the buffer holds once its head and the first i entries are written (`soFar`), what one more entry
+-- makes of it (`goes-on`), and that the last one makes the whole answer (`ends`).
+use mathlib.Core.Path.{_≡_, refl, sym, ap, _∙_}
+use mathlib.Core.List.{List, [], _∷_, _++_, append-assoc, append-nil}
+use Prim.Native.Nat.{ℕ, _+_, _*_, _-_, _≤_, _<_}
 use native.Mathlib.Omega.{arith}
 use native.Mathlib.Numerals.{add-one}
-use borrow.Rule.Slice.PartMut.{midOf, postOf, putMid}
-use lib.ListN.{length, take, drop, getD, length-append, length-drop, length-map, drop-of-length-le, take-append-drop}
+use borrow.Rule.Slice.PartMut.{midOf, putMid}
+use lib.ListN.{length, take, drop, getD, length-append, length-drop, drop-of-length-le, take-append-drop}
 use lib.Seq.{take-at, drop-at, take-all, take-suc, drop-drop, length-take-le}
 use Rattle.little_endian.specs.Bytes.{written}
 use Rattle.little_endian.proofs.Laid.{laid}
+use Rattle.records.specs.Layout.{headSize, entrySize, answerSize}
 use Rattle.records.specs.Records.{headBytes, answerHeadOf, entryBytes, entriesBytes, answerBytes}
 use Rattle.records.specs.declared.Entry.{Entry}
 use Rattle.records.proofs.Sizes.{head-length, entry-length}
 use Rattle.records.proofs.Answers.{entries-length, entries-append, answer-length}
-use Rattle.entrance.specs.declared.Problem.{Problem}
-use Rattle.bisection.specs.declared.Bracket.{Bracket}
-use Rattle.entries.specs.Entries.{entryFor}
 
 -- ---- bytes laid over a part of a buffer
 
-laid-part : (pre rest bytes : List ℕ) (n k : ℕ) → length pre ≡ n → k ≡ length (pre ++ rest) - n → length bytes ≤ length rest →
+laid-part :
+    (pre rest bytes : List ℕ) (n k : ℕ) → length pre ≡ n → k ≡ length (pre ++ rest) - n → length bytes ≤ length rest →
     putMid n k (pre ++ rest) (written (midOf n k (pre ++ rest)) bytes) ≡ pre ++ (bytes ++ drop (length bytes) rest)
 laid-part pre rest bytes n k e f h =
     let size : length rest ≡ k = omega (arith, length-append pre rest, e, f) in
@@ -28,87 +27,99 @@ laid-part pre rest bytes n k e f h =
     let none : drop k rest ≡ [] = drop-of-length-le rest {i = k} (omega (arith, size)) in
     rw (take-at pre rest n e, drop-at pre rest n e, whole, none, laid rest bytes h, append-nil)
 
--- ---- the entries of the first i brackets
+-- ---- the first i of some entries
 
-module _ (p : Problem) (list : List Bracket) where
-  abbrev entriesUpTo : ℕ → List ℕ
-  entriesUpTo i = entriesBytes (map (entryFor p) (take i list))
+module _ (es : List Entry) where
+  abbrev bytesUpTo : ℕ → List ℕ
+  bytesUpTo i = entriesBytes (take i es)
 
-  -- the head's 16 bytes, the entries of the first i brackets, and the buffer's own bytes after them
+  -- the head's bytes, the first i entries, and the buffer's own bytes after them
   unfoldable pub soFar : ℕ → List ℕ → List ℕ
-  soFar i buffer = take 16 buffer ++ entriesUpTo i ++ drop (16 + 64 * i) buffer
+  soFar i buffer = take headSize buffer ++ bytesUpTo i ++ drop (answerSize i) buffer
 
-  size-up : (i : ℕ) → i ≤ length list → length (entriesUpTo i) ≡ 64 * i
-  size-up i h =
-      entries-length (map (entryFor p) (take i list)) ∙ ap (λ (n : ℕ). 64 * n) (length-map (take i list) (entryFor p) ∙ length-take-le i list h)
+  size-up : (i : ℕ) → i ≤ length es → length (bytesUpTo i) ≡ entrySize * i
+  size-up i h = entries-length (take i es) ∙ ap (λ (n : ℕ). entrySize * n) (length-take-le i es h)
 
-  map-snoc : (bs : List Bracket) (b : Bracket) → map (entryFor p) (bs ++ (b ∷ [])) ≡ map (entryFor p) bs ++ (entryFor p b ∷ [])
-  map-snoc [] b = refl
-  map-snoc (x ∷ xs) b = ap (λ l. entryFor p x ∷ l) (map-snoc xs b)
-
-  up-next : (i : ℕ) (d : Bracket) → i < length list → entriesUpTo (i + 1) ≡ entriesUpTo i ++ entryBytes (entryFor p (getD list i d))
+  up-next : (i : ℕ) (d : Entry) → i < length es → bytesUpTo (i + 1) ≡ bytesUpTo i ++ entryBytes (getD es i d)
   unfolding entriesBytes
   up-next i d h =
       rw add-one
-      (ap (λ bs. entriesBytes (map (entryFor p) bs)) (take-suc list i d h)
-      ∙ ap entriesBytes (map-snoc (take i list) (getD list i d))
-      ∙ entries-append (map (entryFor p) (take i list)) (entryFor p (getD list i d) ∷ [])
-      ∙ ap (λ l. entriesUpTo i ++ l) (append-nil (entryBytes (entryFor p (getD list i d)))))
+      (ap entriesBytes (take-suc es i d h)
+      ∙ entries-append (take i es) (getD es i d ∷ [])
+      ∙ ap (λ l. bytesUpTo i ++ l) (append-nil (entryBytes (getD es i d))))
 
   module _ (buffer : List ℕ) where
-    pub starts : 16 ≤ length buffer → buffer ≡ soFar 0 buffer
+    pub starts : buffer ≡ soFar 0 buffer
     unfolding soFar entriesBytes
-    starts h = sym (rw append-nil (take-append-drop 16 buffer))
+    starts =
+        sym (ap (λ l. l ++ drop headSize buffer) (append-nil (take headSize buffer)) ∙ take-append-drop headSize buffer)
 
     abbrev front : ℕ → List ℕ
-    front i = take 16 buffer ++ entriesUpTo i
+    front i = take headSize buffer ++ bytesUpTo i
 
-    front-size : (i : ℕ) → i ≤ length list → 16 ≤ length buffer → length (front i) ≡ 16 + 64 * i
+    front-size : (i : ℕ) → i ≤ length es → headSize ≤ length buffer → length (front i) ≡ answerSize i
     front-size i few room =
-        length-append (take 16 buffer) (entriesUpTo i) ∙ rw (length-take-le 16 buffer room, size-up i few)
+        length-append (take headSize buffer) (bytesUpTo i) ∙ rw (length-take-le headSize buffer room, size-up i few)
 
-    pub size-at : (i : ℕ) → i ≤ length list → 16 + 64 * i ≤ length buffer → length (soFar i buffer) ≡ length buffer
+    pub size-at : (i : ℕ) → i ≤ length es → answerSize i ≤ length buffer → length (soFar i buffer) ≡ length buffer
     unfolding soFar
     size-at i few room =
-        length-append (front i) (drop (16 + 64 * i) buffer)
-        ∙ omega (arith, front-size i few (omega (arith, room)), length-drop (16 + 64 * i) buffer, room)
+        length-append (front i) (drop (answerSize i) buffer)
+        ∙ omega (arith, front-size i few (omega (arith, room)), length-drop (answerSize i) buffer, room)
 
-    module _ (i : ℕ) (few : i < length list) (room : 16 + 64 * (i + 1) ≤ length buffer) where
-      pub goes-on : (d : Bracket) (cur : List ℕ) → cur ≡ soFar i buffer →
-          putMid (16 + 64 * i) (length cur - (16 + 64 * i)) cur (written (midOf (16 + 64 * i) (length cur - (16 + 64 * i)) cur) (entryBytes (entryFor p (getD list i d)))) ≡ soFar (i + 1) buffer
+    module _ (i : ℕ) (few : i < length es) (room : answerSize (i + 1) ≤ length buffer) where
+      -- the next entry is written to the part of the buffer from its place on
+      pub goes-on :
+          (d : Entry) (cur : List ℕ) (place : ℕ) → place ≡ answerSize i → cur ≡ soFar i buffer →
+          let left = length cur - place in
+          putMid place left cur (written (midOf place left cur) (entryBytes (getD es i d))) ≡ soFar (i + 1) buffer
       unfolding soFar
-      goes-on d cur e =
-          let entry = entryBytes (entryFor p (getD list i d)) in
-          let rest = drop (16 + 64 * i) buffer in
-          let long : length entry ≤ length rest = omega (arith, entry-length (entryFor p (getD list i d)), length-drop (16 + 64 * i) buffer, room) in
-          let after : 16 + 64 * i + length entry ≡ 16 + 64 * (i + 1) = omega (arith, entry-length (entryFor p (getD list i d))) in
-          rw e (laid-part (front i) rest entry (16 + 64 * i) (length (front i ++ rest) - (16 + 64 * i)) (front-size i (omega (arith, few)) (omega (arith, room))) refl long)
+      goes-on d cur place at e =
+          let entry = entryBytes (getD es i d) in
+          let size = entry-length (getD es i d) in
+          let rest = drop (answerSize i) buffer in
+          let long : length entry ≤ length rest = omega (arith, size, length-drop (answerSize i) buffer, room) in
+          let after : answerSize i + length entry ≡ answerSize (i + 1) = omega (arith, size) in
+          let before = front-size i (omega (arith, few)) (omega (arith, room)) in
+          rw (e, at) (laid-part (front i) rest entry (answerSize i) (length (front i ++ rest) - answerSize i) before refl long)
           ∙ sym (append-assoc (front i) entry (drop (length entry) rest))
-          ∙ ap (λ l. l ++ drop (length entry) rest) (append-assoc (take 16 buffer) (entriesUpTo i) entry ∙ ap (λ l. take 16 buffer ++ l) (sym (up-next i d few)))
-          ∙ ap (λ l. take 16 buffer ++ entriesUpTo (i + 1) ++ l) (drop-drop (length entry) (16 + 64 * i) buffer ∙ ap (λ (n : ℕ). drop n buffer) after)
+          ∙ ap (λ l. l ++ drop (length entry) rest)
+          (append-assoc (take headSize buffer) (bytesUpTo i) entry ∙ ap (λ l. take headSize buffer ++ l) (sym (up-next i d few)))
+          ∙ ap (λ l. take headSize buffer ++ bytesUpTo (i + 1) ++ l)
+          (drop-drop (length entry) (answerSize i) buffer ∙ ap (λ (n : ℕ). drop n buffer) after)
 
-  -- the size of the answer with the first i entries
-  pub answer-size : (i : ℕ) → i ≤ length list → length (answerBytes (p .job) (p .revision) (map (entryFor p) (take i list))) ≡ 16 + 64 * i
-  answer-size i few =
-      answer-length (p .job) (p .revision) (map (entryFor p) (take i list))
-      ∙ ap (λ (n : ℕ). 16 + 64 * n) (length-map (take i list) (entryFor p) ∙ length-take-le i list few)
+  -- ---- the whole answer
 
-  -- the head was written over the buffer's start, and then every entry
-  pub ends : (count : ℕ) (buffer first : List ℕ) → count ≤ length list → 16 + 64 * count ≤ length buffer →
-      first ≡ written buffer (headBytes (answerHeadOf (p .job) (p .revision) count)) →
-      soFar count first ≡ written buffer (answerBytes (p .job) (p .revision) (map (entryFor p) (take count list)))
-  unfolding soFar answerBytes
-  ends count buffer first few room e =
-      let es = map (entryFor p) (take count list) in
-      let head = headBytes (answerHeadOf (p .job) (p .revision) count) in
-      let number : length es ≡ count = length-map (take count list) (entryFor p) ∙ length-take-le count list few in
-      let short : length head ≤ length buffer = omega (arith, head-length (answerHeadOf (p .job) (p .revision) count), room) in
-      let start : first ≡ head ++ drop 16 buffer = e ∙ laid buffer head short ∙ ap (λ (n : ℕ). head ++ drop n buffer) (head-length (answerHeadOf (p .job) (p .revision) count)) in
-      let sixteen : take 16 first ≡ head = ap (take 16) start ∙ take-at head (drop 16 buffer) 16 (head-length (answerHeadOf (p .job) (p .revision) count)) in
-      let sixteen-on : drop 16 first ≡ drop 16 buffer = ap (drop 16) start ∙ drop-at head (drop 16 buffer) 16 (head-length (answerHeadOf (p .job) (p .revision) count)) in
-      let after : drop (16 + 64 * count) first ≡ drop (16 + 64 * count) buffer = sym (drop-drop (64 * count) 16 first) ∙ ap (drop (64 * count)) sixteen-on ∙ drop-drop (64 * count) 16 buffer in
-      let long : length (answerBytes (p .job) (p .revision) es) ≡ 16 + 64 * count = answer-size count few in
-      rw (sixteen, after)
-      (sym (laid buffer (answerBytes (p .job) (p .revision) es) (omega (arith, long, room))
-      ∙ ap (λ (n : ℕ). answerBytes (p .job) (p .revision) es ++ drop n buffer) long
-      ∙ ap (λ (n : ℕ). headBytes (answerHeadOf (p .job) (p .revision) n) ++ entriesBytes es ++ drop (16 + 64 * count) buffer) number))
+  module _ (job revision : ℕ) where
+    abbrev answer : ℕ → List ℕ
+    answer i = answerBytes job revision (take i es)
+
+    abbrev head : ℕ → List ℕ
+    head i = headBytes (answerHeadOf job revision i)
+
+    -- the size of the answer with the first i entries
+    pub taken-size : (i : ℕ) → i ≤ length es → length (answer i) ≡ answerSize i
+    taken-size i few = answer-length job revision (take i es) ∙ ap (λ (n : ℕ). answerSize n) (length-take-le i es few)
+
+    -- the head was written over the buffer's start, and then every entry
+    pub ends :
+        (count : ℕ) (buffer first : List ℕ) → count ≤ length es → answerSize count ≤ length buffer →
+        first ≡ written buffer (head count) → soFar count first ≡ written buffer (answer count)
+    unfolding soFar answerBytes
+    ends count buffer first few room e =
+        let number : length (take count es) ≡ count = length-take-le count es few in
+        let sized : length (head count) ≡ headSize = head-length (answerHeadOf job revision count) in
+        let short : length (head count) ≤ length buffer = omega (arith, sized, room) in
+        let rest = drop headSize buffer in
+        let start : first ≡ head count ++ rest =
+        e ∙ laid buffer (head count) short ∙ ap (λ (n : ℕ). head count ++ drop n buffer) sized in
+        let front-is : take headSize first ≡ head count = ap (take headSize) start ∙ take-at (head count) rest headSize sized in
+        let rest-is : drop headSize first ≡ rest = ap (drop headSize) start ∙ drop-at (head count) rest headSize sized in
+        let entries = entrySize * count in
+        let after : drop (answerSize count) first ≡ drop (answerSize count) buffer =
+        sym (drop-drop entries headSize first) ∙ ap (drop entries) rest-is ∙ drop-drop entries headSize buffer in
+        let long : length (answer count) ≡ answerSize count = taken-size count few in
+        rw (front-is, after)
+        (sym (laid buffer (answer count) (omega (arith, long, room))
+        ∙ ap (λ (n : ℕ). answer count ++ drop n buffer) long
+        ∙ ap (λ (n : ℕ). head n ++ bytesUpTo count ++ drop (answerSize count) buffer) number))

@@ -1,16 +1,20 @@
 -- The entry of a bracket (01, Stations, sides, crossings; Velocities): its chosen end and the velocities there. Definitions only.
-use Prim.Native.Nat.{ℕ}
+use Prim.Native.Nat.{ℕ, _-_}
 use mathlib.Core.Bool.{Bool, true, false, cond, _&&_}
-use mathlib.Core.List.{List, [], _∷_}
-use lib.IntN.{ℤ}
+use mathlib.Core.List.{List, [], _∷_, _++_}
+use lib.IntN.{ℤ, pos}
 use lib.Ieee.{Float}
+use lib.ListN.{length, replicate}
+use Rattle.float64.specs.Notation.{0F}
+use Rattle.float64.specs.declared.Vector.{Vector}
+use Rattle.records.specs.Layout.{mostEntries}
 use Rattle.records.specs.declared.Entry.{Entry}
 use Rattle.entrance.specs.declared.Problem.{Problem}
 use Rattle.flight_time.specs.Time.{timeOf}
 use Rattle.flight_time.specs.declared.Place.{Place}
 use Rattle.flight_time.specs.declared.Place.the-variants.{Timed, Void}
 use Rattle.bisection.specs.declared.Bracket.{Bracket}
-use Rattle.velocity.specs.Chosen.{upperChosen, velocitiesFinite}
+use Rattle.velocity.specs.Chosen.{upperChosen, vectorFinite}
 use Rattle.velocity.specs.Velocities.{velocitiesOf}
 use Rattle.velocity.specs.declared.Velocities.{Velocities}
 
@@ -49,10 +53,29 @@ entryFor p b =
       v2 = velocitiesFor p b .v2;
     }
 
--- whether the velocities are finite, at one bracket and at every one of a list
-unfoldable pub finiteFor : Problem → Bracket → Bool
-finiteFor p b = velocitiesFinite (velocitiesFor p b)
+-- a place that is not used, and the places of at most eight entries: those, and unused places after them
+abbrev pub unused : Entry
+unused =
+    let none : Vector = record { x = 0F; y = 0F; z = 0F } in
+    record {
+      lower = pos 0;
+      halvings = 0;
+      chosen = 0;
+      v1 = none;
+      v2 = none;
+    }
 
-unfoldable pub every : (Bracket → Bool) → List Bracket → Bool
+abbrev pub places : List Entry → List Entry
+places es = es ++ replicate (mostEntries - length es) unused
+
+-- whether the velocities of an entry are finite, and of the entry of a bracket
+abbrev pub entryFinite : Entry → Bool
+entryFinite e = vectorFinite (e .v1) && vectorFinite (e .v2)
+
+unfoldable pub finiteFor : Problem → Bracket → Bool
+finiteFor p b = entryFinite (entryFor p b)
+
+-- whether all of a list pass a test
+unfoldable pub every : {A : Type 0} → (A → Bool) → List A → Bool
 every test [] = true
-every test (b ∷ bs) = test b && every test bs
+every test (x ∷ xs) = test x && every test xs

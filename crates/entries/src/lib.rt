@@ -1,9 +1,12 @@
 // The entries of an answer: of each bracket the chosen end and the velocities there (01, Velocities), whether
 // all of these are finite, and the answer's bytes.
 ghost use mathlib.Core.Path.{_≡_};
+ghost use mathlib.Core.Bool.{cond};
+ghost use mathlib.Core.List.{map};
 ghost use Prim.Native.Nat.{min, _≤_};
 ghost use lib.ListN.{take};
-ghost use Rattle.entries.specs.Entries.{placeOf, upperOf, takesUpper, velocitiesAt, velocitiesFor, finiteFor, every, endNumber, entryFor};
+ghost use Rattle.records.specs.Layout.{mostEntries};
+ghost use Rattle.entries.specs.Entries.{placeOf, upperOf, takesUpper, velocitiesAt, endNumber, entryFor, places, entryFinite, every};
 
 mod answers;
 
@@ -11,7 +14,9 @@ pub use answers::write_answer;
 use bisection::Bracket;
 use entrance::Problem;
 use flight_time::Place;
+use float64::Vector;
 use records::Entry;
+use records::MOST_ENTRIES;
 use velocity::Velocities;
 
 // The time at the place k of a problem, or that it is void.
@@ -49,61 +54,96 @@ fn velocities_at(p: Problem, k: i64) -> Velocities
     velocity::velocities_at(p.mu, triangle, p.radius1, p.radius2, frame, k)
 }
 
-fn velocities_for(p: Problem, b: Bracket) -> Velocities
-    ensures { λ r. ⌜ r ≡ velocitiesFor p b ⌝ }
+// The velocities at the upper end of a bracket, or at its lower end.
+fn velocities_at_end(p: Problem, b: Bracket, upper: bool) -> Velocities
+    ensures { λ r. ⌜ r ≡ velocitiesAt p (cond upper (b .upper) (b .lower)) ⌝ }
 {
-    if takes_upper(p, b) {
+    if upper {
         velocities_at(p, b.upper)
     } else {
         velocities_at(p, b.lower)
     }
 }
 
-fn finite_for(p: Problem, b: Bracket) -> bool
-    ensures { λ r. ⌜ r ≡ finiteFor p b ⌝ }
-{
-    velocity::are_finite(velocities_for(p, b))
-}
-
-// The chosen end as the wire says it: 0 the lower, 1 the upper.
-fn chosen_end(upper: bool) -> u32
+// An end as the wire says it: 0 the lower, 1 the upper.
+fn end_number(upper: bool) -> u32
     ensures { λ r. ⌜ r ≡ endNumber upper ⌝ }
 {
     if upper { 1 } else { 0 }
 }
 
-pub(crate) fn entry_for(p: Problem, b: Bracket) -> Entry
+fn entry_for(p: Problem, b: Bracket) -> Entry
     ensures { λ r. ⌜ r ≡ entryFor p b ⌝ }
 {
-    let w = velocities_for(p, b);
+    let upper = takes_upper(p, b);
+    let w = velocities_at_end(p, b, upper);
     let v1 = w.v1;
     let v2 = w.v2;
-    let chosen = chosen_end(takes_upper(p, b));
     Entry {
         lower: b.lower,
         halvings: b.halvings,
-        chosen,
+        chosen: end_number(upper),
         v1,
         v2,
     }
 }
 
-// A count of brackets, cut at the eight places of a list.
-pub(crate) fn at_most_eight(count: usize) -> usize
-    ensures { λ r. ⌜ (r ≤ 8) × (r ≡ min count 8) ⌝ }
+// A count, cut at the places of a list.
+pub(crate) fn cut_count(count: usize) -> u16
+    ensures most { λ r. ⌜ r ≤ mostEntries ⌝ }
+    ensures cut { λ r. ⌜ r ≡ min count mostEntries ⌝ }
 {
-    if count < 8 { count } else { 8 }
+    if count < MOST_ENTRIES {
+        count as u16
+    } else {
+        MOST_ENTRIES as u16
+    }
 }
 
-// Whether the velocities of the first `count` brackets are finite; of all eight where it is above 8.
-pub fn all_finite(p: Problem, list: [Bracket; 8], count: usize) -> bool
-    ensures { λ r. ⌜ r ≡ every (finiteFor p) (take count list) ⌝ }
+// The entries of the first `count` brackets, of all where it is above the places of the list; the places after
+// them hold zeros.
+pub fn entries_of(p: Problem, list: [Bracket; MOST_ENTRIES], count: usize) -> [Entry; MOST_ENTRIES]
+    ensures { λ r. ⌜ r ≡ places (map (entryFor p) (take count list)) ⌝ }
 {
-    let few = at_most_eight(count);
+    let few = cut_count(count) as usize;
+    let none = Vector {
+        x: 0.0,
+        y: 0.0,
+        z: 0.0,
+    };
+    let unused = Entry {
+        lower: 0,
+        halvings: 0,
+        chosen: 0,
+        v1: none,
+        v2: none,
+    };
+    let mut entries = [unused; MOST_ENTRIES];
+    let mut i: usize = 0;
+    while i < few {
+        entries[i] = entry_for(p, list[i]);
+        i += 1;
+    }
+    entries
+}
+
+fn is_finite(e: Entry) -> bool
+    ensures { λ r. ⌜ r ≡ entryFinite e ⌝ }
+{
+    let v1 = e.v1;
+    let v2 = e.v2;
+    velocity::are_finite(Velocities { v1, v2 })
+}
+
+// Whether the velocities of the first `count` entries are finite, of all where it is above the places of the list.
+pub fn all_finite(entries: [Entry; MOST_ENTRIES], count: usize) -> bool
+    ensures { λ r. ⌜ r ≡ every entryFinite (take count entries) ⌝ }
+{
+    let few = cut_count(count) as usize;
     let mut finite = true;
     let mut i: usize = 0;
     while i < few {
-        finite = finite & finite_for(p, list[i]);
+        finite = finite & is_finite(entries[i]);
         i += 1;
     }
     finite

@@ -5,60 +5,69 @@ use Prim.Native.Nat.{ℕ, _+_, _-_, _≤_, _<_, min}
 use native.Mathlib.Omega.{arith}
 use borrow.Author.Needs.{needs}
 use lib.ListN.{length, take}
-use lib.IntN.{pos}
-use Rattle.entries.specs.Entries.{finiteFor, every}
-use Rattle.entries.proofs.BracketLists.{every-next, take-few}
+use Rattle.records.specs.Layout.{mostEntries}
+use Rattle.entries.specs.Entries.{entryFinite, every}
+use Rattle.entries.proofs.Lists.{every-next, take-cut-count}
 use Rattle.entries.proofs.all_finite.Statement.{statement}
 use Rattle.entries.proofs.all_finite.Tie as tie
 
 abbrev Inv-loop : tie.InvT-loop
-Inv-loop p count list few finite₀ i₀ finite i = (i ≤ few) × (finite ≡ every (finiteFor p) (take i list))
+Inv-loop count entries few finite₀ i₀ finite i = (i ≤ few) × (finite ≡ every entryFinite (take i entries))
 
 abbrev μ-loop : tie.MeasureT-loop
-μ-loop p count list few finite₀ i₀ finite i = few - i
+μ-loop count entries few finite₀ i₀ finite i = few - i
 
-at-most-eight-requires : tie.Need-at-most-eight-requires Inv-loop μ-loop
-at-most-eight-requires c κs = search needs
+cut-count-requires : tie.Need-cut-count-requires Inv-loop μ-loop
+cut-count-requires c κs = tt
+
+cast-few : tie.Need-cast-few Inv-loop μ-loop
+cast-few c = search needs
 
 loop-holds : tie.Need-loop-holds Inv-loop μ-loop
 unfolding every
 loop-holds c = (omega arith, refl)
 
-mul-finite-for : tie.Need-mul-finite-for Inv-loop μ-loop
-mul-finite-for c = omega (arith, c .loop-test .taken, c .before .before .at-most-eight .ensures .0)
+-- the list has as many places as an answer has entries at most, and in a turn i is one of them
+list-length : (c : tie.After-cut-count Inv-loop μ-loop) → length (c .before .args .t1) ≡ mostEntries
+list-length c = search (needs, c .before .good)
 
-array-copy-out-finite-for : tie.Need-array-copy-out-finite-for Inv-loop μ-loop
-array-copy-out-finite-for c = omega (arith, c .loop-test .taken, c .before .before .at-most-eight .ensures .0)
+in-list : (c : tie.In-loop Inv-loop μ-loop) → c .before .loop .i < mostEntries
+in-list c = omega (arith, c .loop-test .taken, c .before .before .cut-count .ensures .0)
 
-finite-for-requires : tie.Need-finite-for-requires Inv-loop μ-loop
-finite-for-requires c κs = search needs
+mul-is-finite : tie.Need-mul-is-finite Inv-loop μ-loop
+mul-is-finite c = omega (arith, in-list c)
+
+array-copy-out-is-finite : tie.Need-array-copy-out-is-finite Inv-loop μ-loop
+array-copy-out-is-finite c = in-list c
+
+is-finite-requires : tie.Need-is-finite-requires Inv-loop μ-loop
+is-finite-requires c κs = tt
 
 add-i : tie.Need-add-i Inv-loop μ-loop
-add-i c = omega (arith, c .before .before .loop-test .taken, c .before .before .before .before .at-most-eight .ensures .0)
+add-i c = omega (arith, in-list (c .before .before))
 
 loop-less : tie.Need-loop-less Inv-loop μ-loop
 loop-less c = omega (arith, c .before .before .loop-test .taken)
 
--- the list has eight places
-eight : (c : tie.At-loop Inv-loop μ-loop) → length (c .before .before .args .t2) ≡ 8
-eight c = search (needs, c .before .before .good)
-
 loop-again : tie.Need-loop-again Inv-loop μ-loop
 loop-again c =
-    let at = c .before .before .before in
+    let turn = c .before .before in
+    let at = turn .before in
     let a = at .before .before .args in
-    let v = at .loop .inv in (
-      omega (arith, c .before .before .loop-test .taken),
-      rw (v .1, c .finite-for .ensures)
-          (sym (every-next (finiteFor (a .p)) (a .t2) (at .loop .i) (record { lower = pos 0; upper = pos 0; halvings = 0 }) (omega (arith, eight at, c .before .before .loop-test .taken, at .before .at-most-eight .ensures .0)))),
+    let i = at .loop .i in
+    let listed : i < length (a .t1) = omega (arith, list-length (at .before), in-list turn) in (
+      omega (arith, turn .loop-test .taken),
+      rw (at .loop .inv .1, c .is-finite .ensures) (sym (every-next entryFinite (a .t1) i _ listed)),
     )
 
 returns : tie.Need-returns Inv-loop μ-loop
 returns c =
     let at = c .before in
-    let a = at .before .before .args in
-    let e : at .loop .i ≡ min (a .count) 8 = omega (arith, c .loop-test .left, at .loop .inv .0, at .before .at-most-eight .ensures .1) in
-    at .loop .inv .1 ∙ ap (every (finiteFor (a .p))) (ap (λ (n : ℕ). take n (a .t2)) e ∙ take-few (a .t2) (a .count) (eight at))
+    let cut = at .before in
+    let a = cut .before .args in
+    let last : at .loop .i ≡ min (a .count) mostEntries = omega (arith, c .loop-test .left, at .loop .inv .0, cut .cut-count .ensures .1) in
+    at .loop .inv .1
+    ∙ ap (every entryFinite) (ap (λ (n : ℕ). take n (a .t1)) last ∙ take-cut-count (a .t1) (a .count) (list-length cut))
 
 pub all-finite-spec : {M : Type 1} → statement M
 all-finite-spec =
@@ -66,11 +75,12 @@ all-finite-spec =
     (tie.spec
     Inv-loop
     μ-loop
-    at-most-eight-requires
+    cut-count-requires
+    cast-few
     loop-holds
-    mul-finite-for
-    array-copy-out-finite-for
-    finite-for-requires
+    mul-is-finite
+    array-copy-out-is-finite
+    is-finite-requires
     add-i
     loop-less
     loop-again

@@ -19,10 +19,14 @@ upper-of-requires c κs = search needs
 returns : tie.Need-returns
 unfolding takesUpper
 returns c =
-    let a = c .before .before .before .before .before .args in
-    let f : SFits w64 (a .b .lower) = search (needs, c .before .before .before .before .struct-told .given) in
-    let g : SFits w64 (a .b .upper) = search (needs, c .before .before .struct-told2 .given) in
-    simp (c .upper-of .ensures, c .before .place-at2 .ensures, c .before .before .before .place-at .ensures, toZ-ofZ f, toZ-ofZ g)
+    let upper = c .before in
+    let upper-told = upper .before in
+    let lower = upper-told .before in
+    let lower-told = lower .before in
+    let b = lower-told .before .args .b in
+    let f : SFits w64 (b .lower) = search (needs, lower-told .struct-told .given) in
+    let g : SFits w64 (b .upper) = search (needs, upper-told .struct-told2 .given) in
+    simp (c .upper-of .ensures, upper .place-at2 .ensures, lower .place-at .ensures, toZ-ofZ f, toZ-ofZ g)
 
 pub takes-upper-spec : {M : Type 1} → statement M
 takes-upper-spec =

@@ -25,7 +25,10 @@ upper-chosen-requires : tie.Need-upper-chosen-requires
 upper-chosen-requires c κs = search needs
 
 returns-3 : tie.Need-returns-3
-returns-3 c = simp (c .upper-chosen .ensures, c .before .before .before .before .before .lower .given .1, c .before .before .upper .given .1)
+returns-3 c =
+    let upper = c .before .before in
+    let lower = upper .before .before .before in
+    simp (c .upper-chosen .ensures, lower .lower .given .1, upper .upper .given .1)
 
 pub upper-of-spec : {M : Type 1} → statement M
 upper-of-spec =

@@ -1,64 +1,66 @@
--- `write_answer` meets its contract: the invariant is `soFar`, the buffer with the head and the first i entries; the measure is how many are left.
+-- `write_answer` meets its contract: the invariant is `soFar`, the buffer with the head and the first i entries; the measure is how
+-- many are left.
 use mathlib.Core.Path.{_≡_, refl, sym, ap, _∙_}
 use Prim.Native.Nat.{ℕ, _+_, _*_, _-_, _≤_, _<_, min}
 use native.Mathlib.Omega.{arith}
 use native.Mathlib.Nat.{le-refl}
 use borrow.Author.Needs.{needs}
-use mathlib.Core.List.{List, map}
+use mathlib.Core.List.{List}
 use borrow.Rule.Slice.PartMut.{midOf, putMid}
-use lib.IntN.{pos}
 use lib.ListN.{length, take, drop}
 use Rattle.little_endian.specs.Bytes.{written}
+use Rattle.little_endian.proofs.Laid.{laid-length, not-laid}
+use Rattle.records.specs.Layout.{mostEntries, answerSize}
 use Rattle.records.specs.Records.{headBytes, answerHeadOf, entryBytes, answerBytes}
 use Rattle.records.specs.declared.Head.{Head}
 use Rattle.records.specs.declared.Entry.{Entry}
 use Rattle.records.proofs.Sizes.{head-length}
-use Rattle.bisection.specs.declared.Bracket.{Bracket}
-use Rattle.entries.specs.Entries.{entryFor}
-use Rattle.entries.proofs.BracketLists.{take-few}
-use Rattle.little_endian.proofs.Laid.{laid-length, not-laid}
-use Rattle.entries.proofs.Written.{soFar, starts, size-at, goes-on, ends, answer-size}
+use Rattle.entries.specs.Entries.{unused}
+use Rattle.entries.proofs.Lists.{take-cut-count}
+use Rattle.entries.proofs.Written.{soFar, starts, size-at, goes-on, taken-size, ends}
 use Rattle.entries.proofs.answers.write_answer.Statement.{statement}
 use Rattle.entries.proofs.answers.write_answer.Tie as tie
 
 abbrev Inv-loop : tie.InvT-loop
-Inv-loop p count out₀ list few i₀ out i = (i ≤ few) × (out ≡ soFar p list i out₀)
+Inv-loop job revision count out₀ entries few i₀ out i = (i ≤ few) × (out ≡ soFar entries i out₀)
 
 abbrev μ-loop : tie.MeasureT-loop
-μ-loop p count out₀ list few i₀ out i = few - i
+μ-loop job revision count out₀ entries few i₀ out i = few - i
 
-at-most-eight-requires : tie.Need-at-most-eight-requires Inv-loop μ-loop
-at-most-eight-requires c κs = tt
+cut-count-requires : tie.Need-cut-count-requires Inv-loop μ-loop
+cut-count-requires c κs = tt
 
-mul-if1 : tie.Need-mul-if1 Inv-loop μ-loop
-mul-if1 c = omega (arith, c .at-most-eight .ensures .0)
+answer-size-requires : tie.Need-answer-size-requires Inv-loop μ-loop
+answer-size-requires c κs = tt
 
-add-if1 : tie.Need-add-if1 Inv-loop μ-loop
-add-if1 c = omega (arith, c .at-most-eight .ensures .0)
-
--- what the count was cut to takes as many brackets, and the list has eight places
-eight : (c : tie.After-at-most-eight Inv-loop μ-loop) → length (c .before .before .args .t2) ≡ 8
-eight c = search (needs, c .before .before .good)
-
-cut : (c : tie.After-at-most-eight Inv-loop μ-loop) → take (c .at-most-eight .result) (c .before .before .args .t2) ≡ take (c .before .before .args .count) (c .before .before .args .t2)
+-- what the count was cut to takes as many entries, and there are as many
+cut : (c : tie.After-cut-count Inv-loop μ-loop) →
+    let a = c .before .before .args in
+    (c .cut-count .result ≤ length (a .t3)) × (take (c .cut-count .result) (a .t3) ≡ take (a .count) (a .t3))
 cut c =
     let a = c .before .before .args in
-    ap (λ (n : ℕ). take n (a .t2)) (c .at-most-eight .ensures .1) ∙ take-few (a .t2) (a .count) (eight c)
+    let long : length (a .t3) ≡ mostEntries = search (needs, c .before .before .good) in (
+      omega (arith, long, c .cut-count .ensures .0),
+      ap (λ (n : ℕ). take n (a .t3)) (c .cut-count .ensures .1) ∙ take-cut-count (a .t3) (a .count) long,
+    )
 
--- the bytes of the answer with the brackets taken so, and with as many as were asked for
-abbrev answer-cut : tie.After-at-most-eight Inv-loop μ-loop → List Bracket → List ℕ
-answer-cut c bs =
-    let p = c .before .before .args .p in answerBytes (p .job) (p .revision) (map (entryFor p) bs)
+-- the buffer with the answer of some entries written
+abbrev with-answer : tie.After-cut-count Inv-loop μ-loop → List Entry → List ℕ
+with-answer c es =
+    let a = c .before .before .args in
+    written (a .out .now) (answerBytes (a .job) (a .revision) es)
 
 returns : tie.Need-returns Inv-loop μ-loop
 returns c =
-    let e = c .before in
-    let a = e .before .before .args in
-    let size = answer-size (a .p) (a .t2) (e .at-most-eight .result) (omega (arith, e .at-most-eight .ensures .0, eight e)) in
-    sym (ap (λ (bs : List Bracket). written (a .out .now) (answer-cut e bs)) (sym (cut e)) ∙ not-laid (a .out .now) (answer-cut e (take (e .at-most-eight .result) (a .t2))) (omega (arith, size, c .if1 .taken)))
-
-cast-answer-head : tie.Need-cast-answer-head Inv-loop μ-loop
-cast-answer-head c = omega (arith, c .before .before .at-most-eight .ensures .0)
+    let size = c .before in
+    let few = size .before in
+    let a = few .before .before .args in
+    let n = few .cut-count .result in
+    let long = taken-size (a .t3) (a .job) (a .revision) n (cut few .0) in
+    sym
+    (ap (with-answer few) (sym (cut few .1))
+    ∙ not-laid (a .out .now) (answerBytes (a .job) (a .revision) (take n (a .t3)))
+    (omega (arith, long, c .if1 .taken, size .answer-size .ensures)))
 
 answer-head-requires : tie.Need-answer-head-requires Inv-loop μ-loop
 answer-head-requires c κs = tt
@@ -66,56 +68,65 @@ answer-head-requires c κs = tt
 write-head-requires : tie.Need-write-head-requires Inv-loop μ-loop
 write-head-requires c κs = tt
 
+-- from where the head was written: the test of the room, and what the count was cut to
+abbrev room-at : tie.After-write-head Inv-loop μ-loop → tie.Else1 Inv-loop μ-loop
+room-at c = c .before .before .before
+
+abbrev few-at : tie.After-write-head Inv-loop μ-loop → tie.After-cut-count Inv-loop μ-loop
+few-at c = room-at c .before .before
+
+enough : (c : tie.After-write-head Inv-loop μ-loop) →
+    answerSize (few-at c .cut-count .result) ≤ length (few-at c .before .before .args .out .now)
+enough c = omega (arith, room-at c .if1 .left, room-at c .before .answer-size .ensures)
+
 -- the buffer once the head is written, and its size
 first-is : (c : tie.After-write-head Inv-loop μ-loop) →
-    let e = c .before .before .before .before in
-    let a = e .before .before .args in
-    c .write-head .last .0 ≡ written (a .out .now) (headBytes (answerHeadOf (a .p .job) (a .p .revision) (e .at-most-eight .result)))
+    let few = few-at c in
+    let a = few .before .before .args in
+    c .write-head .last .0 ≡ written (a .out .now) (headBytes (answerHeadOf (a .job) (a .revision) (few .cut-count .result)))
 first-is c =
-    c .write-head .ensures .1
-    ∙ ap (λ (h : Head). written (c .before .before .before .before .before .before .args .out .now) (headBytes h)) (c .before .answer-head .ensures)
+    let a = few-at c .before .before .args in
+    c .write-head .ensures .1 ∙ ap (λ (h : Head). written (a .out .now) (headBytes h)) (c .before .answer-head .ensures)
 
-first-size : (c : tie.After-write-head Inv-loop μ-loop) → length (c .write-head .last .0) ≡ length (c .before .before .before .before .before .before .args .out .now)
+first-size : (c : tie.After-write-head Inv-loop μ-loop)
+    → length (c .write-head .last .0) ≡ length (few-at c .before .before .args .out .now)
 first-size c =
-    let e = c .before .before .before .before in
-    let a = e .before .before .args in
-    let head = answerHeadOf (a .p .job) (a .p .revision) (e .at-most-eight .result) in
-    ap length (first-is c) ∙ laid-length (a .out .now) (headBytes head) (omega (arith, head-length head, c .before .before .before .if1 .left))
+    let few = few-at c in
+    let a = few .before .before .args in
+    let head = answerHeadOf (a .job) (a .revision) (few .cut-count .result) in
+    ap length (first-is c) ∙ laid-length (a .out .now) (headBytes head) (omega (arith, head-length head, enough c))
 
 loop-holds : tie.Need-loop-holds Inv-loop μ-loop
 loop-holds c =
-    let w = c .before .before in
-    let a = w .before .before .before .before .before .before .args in (
-      omega arith,
-      starts (a .p) (a .t2) (w .write-head .last .0) (omega (arith, first-size w, w .before .before .before .if1 .left)),
-    )
+    let head = c .before .before in
+    (omega arith, starts (few-at head .before .before .args .t3) (head .write-head .last .0))
 
--- in a turn: where the head was written, how many entries there are at most, and that the buffer has kept its size
+-- at a turn's start: where the head was written; the buffer has kept its size
 abbrev head-at : tie.At-loop Inv-loop μ-loop → tie.After-write-head Inv-loop μ-loop
 head-at c = c .before .before .before
 
-abbrev few-at : tie.At-loop Inv-loop μ-loop → tie.After-at-most-eight Inv-loop μ-loop
-few-at c = head-at c .before .before .before .before
-
-still : (c : tie.At-loop Inv-loop μ-loop) → length (c .loop .out) ≡ length (few-at c .before .before .args .out .now)
+still : (c : tie.At-loop Inv-loop μ-loop) → length (c .loop .out) ≡ length (few-at (head-at c) .before .before .args .out .now)
 still c =
-    let w = head-at c in
-    let e = few-at c in
-    let a = e .before .before .args in
-    let f = first-size w in
-    let room = w .before .before .before .if1 .left in
+    let head = head-at c in
+    let few = few-at head in
+    let es = few .before .before .args .t3 in
+    let here = c .loop .inv .0 in
     ap length (c .loop .inv .1)
-    ∙ size-at (a .p) (a .t2) (w .write-head .last .0) (c .loop .i) (omega (arith, c .loop .inv .0, e .at-most-eight .ensures .0, eight e)) (omega (arith, c .loop .inv .0, room, f))
-    ∙ f
+    ∙ size-at es (head .write-head .last .0) (c .loop .i) (omega (arith, here, cut few .0))
+    (omega (arith, here, enough head, first-size head))
+    ∙ first-size head
 
-mul-at : tie.Need-mul-at Inv-loop μ-loop
-mul-at c = omega (arith, c .loop-test .taken, few-at (c .before) .at-most-eight .ensures .0)
+answer-size-requires-2 : tie.Need-answer-size-requires-2 Inv-loop μ-loop
+answer-size-requires-2 c κs = tt
 
-add-at : tie.Need-add-at Inv-loop μ-loop
-add-at c = omega (arith, c .loop-test .taken, few-at (c .before) .at-most-eight .ensures .0)
+-- in a turn: i is one of the entries, and the buffer has room for them
+in-list : (c : tie.In-loop Inv-loop μ-loop) → c .before .loop .i < mostEntries
+in-list c = omega (arith, c .loop-test .taken, few-at (head-at (c .before)) .cut-count .ensures .0)
 
 sub-write-entry : tie.Need-sub-write-entry Inv-loop μ-loop
-sub-write-entry c = omega (arith, still (c .before), c .loop-test .taken, head-at (c .before) .before .before .before .if1 .left)
+sub-write-entry c =
+    let turn = c .before in
+    omega (arith, c .answer-size2 .ensures, still (turn .before), turn .loop-test .taken, enough (head-at (turn .before)))
 
 part-write-entry-start : tie.Need-part-write-entry-start Inv-loop μ-loop
 part-write-entry-start c = sub-write-entry c
@@ -123,39 +134,46 @@ part-write-entry-start c = sub-write-entry c
 part-write-entry-end : tie.Need-part-write-entry-end Inv-loop μ-loop
 part-write-entry-end c = le-refl _
 
-mul-entry-for : tie.Need-mul-entry-for Inv-loop μ-loop
-mul-entry-for c = omega (arith, c .before .loop-test .taken, few-at (c .before .before) .at-most-eight .ensures .0)
+cast-write-entry : tie.Need-cast-write-entry Inv-loop μ-loop
+cast-write-entry c = search needs
 
-array-copy-out-entry-for : tie.Need-array-copy-out-entry-for Inv-loop μ-loop
-array-copy-out-entry-for c = omega (arith, c .before .loop-test .taken, few-at (c .before .before) .at-most-eight .ensures .0)
+mul-write-entry : tie.Need-mul-write-entry Inv-loop μ-loop
+mul-write-entry c = omega (arith, in-list (c .before .before))
 
-entry-for-requires : tie.Need-entry-for-requires Inv-loop μ-loop
-entry-for-requires c κs = tt
+array-copy-out-write-entry : tie.Need-array-copy-out-write-entry Inv-loop μ-loop
+array-copy-out-write-entry c = in-list (c .before .before)
 
 write-entry-requires : tie.Need-write-entry-requires Inv-loop μ-loop
 write-entry-requires c κs = tt
 
+-- in a turn, from where the entry is written to where its place is known
+abbrev place-at : tie.After-write-entry Inv-loop μ-loop → tie.After-answer-size2 Inv-loop μ-loop
+place-at c = c .before .before .before
+
 add-i : tie.Need-add-i Inv-loop μ-loop
-add-i c =
-    let k = c .before .before .before .before .before .before in
-    omega (arith, k .loop-test .taken, few-at (k .before) .at-most-eight .ensures .0)
+add-i c = omega (arith, in-list (place-at (c .before .before) .before))
 
 loop-less : tie.Need-loop-less Inv-loop μ-loop
-loop-less c = omega (arith, c .before .before .before .before .before .before .loop-test .taken)
+loop-less c = omega (arith, place-at (c .before .before) .before .loop-test .taken)
 
 loop-again : tie.Need-loop-again Inv-loop μ-loop
 loop-again c =
-    let k = c .before .before .before .before .before .before in
-    let w = head-at (k .before) in
-    let e = few-at (k .before) in
-    let a = e .before .before .args in
-    let size = first-size w in
-    let room = w .before .before .before .if1 .left in
-    let i = k .before .loop .i in
-    let rest = length (k .before .loop .out) - (16 + 64 * i) in (
-      omega (arith, k .loop-test .taken),
-      ap (λ (l : List ℕ). putMid (16 + 64 * i) rest (k .before .loop .out) l) (c .before .before .write-entry .ensures .1 ∙ ap (λ (x : Entry). written (midOf (16 + 64 * i) rest (k .before .loop .out)) (entryBytes x)) (c .before .before .before .entry-for .ensures))
-          ∙ goes-on (a .p) (a .t2) (w .write-head .last .0) i (omega (arith, k .loop-test .taken, e .at-most-eight .ensures .0, eight e)) (omega (arith, k .loop-test .taken, room, size)) (record { lower = pos 0; upper = pos 0; halvings = 0 }) (k .before .loop .out) (k .before .loop .inv .1),
+    let entry = c .before .before in
+    let place = place-at entry in
+    let turn = place .before in
+    let at = turn .before in
+    let head = head-at at in
+    let few = few-at head in
+    let es = few .before .before .args .t3 in
+    let i = at .loop .i in
+    let now = at .loop .out in
+    let start = place .answer-size2 .result in
+    let listed : i < length es = omega (arith, turn .loop-test .taken, cut few .0) in
+    let room : answerSize (i + 1) ≤ length (head .write-head .last .0) =
+    omega (arith, turn .loop-test .taken, enough head, first-size head) in (
+      omega (arith, turn .loop-test .taken),
+      ap (λ (l : List ℕ). putMid start (length now - start) now l) (entry .write-entry .ensures .1)
+          ∙ goes-on es (head .write-head .last .0) i listed room _ now start (place .answer-size2 .ensures) (at .loop .inv .1),
     )
 
 same-length : tie.Need-same-length Inv-loop μ-loop
@@ -163,14 +181,16 @@ same-length c = still (c .before)
 
 returns-2 : tie.Need-returns-2 Inv-loop μ-loop
 returns-2 c =
-    let w = head-at (c .before) in
-    let e = few-at (c .before) in
-    let a = e .before .before .args in
-    let last : c .before .loop .i ≡ e .at-most-eight .result = omega (arith, c .loop-test .left, c .before .loop .inv .0) in
-    c .before .loop .inv .1
-    ∙ ap (λ (n : ℕ). soFar (a .p) (a .t2) n (w .write-head .last .0)) last
-    ∙ ends (a .p) (a .t2) (e .at-most-eight .result) (a .out .now) (w .write-head .last .0) (omega (arith, e .at-most-eight .ensures .0, eight e)) (omega (arith, w .before .before .before .if1 .left)) (first-is w)
-    ∙ ap (λ (bs : List Bracket). written (a .out .now) (answer-cut e bs)) (cut e)
+    let at = c .before in
+    let head = head-at at in
+    let few = few-at head in
+    let a = few .before .before .args in
+    let n = few .cut-count .result in
+    let last : at .loop .i ≡ n = omega (arith, c .loop-test .left, at .loop .inv .0) in
+    at .loop .inv .1
+    ∙ ap (λ (k : ℕ). soFar (a .t3) k (head .write-head .last .0)) last
+    ∙ ends (a .t3) (a .job) (a .revision) n (a .out .now) (head .write-head .last .0) (cut few .0) (enough head) (first-is head)
+    ∙ ap (with-answer few) (cut few .1)
 
 pub write-answer-spec : {M : Type 1} → statement M
 write-answer-spec =
@@ -178,22 +198,19 @@ write-answer-spec =
     (tie.spec
     Inv-loop
     μ-loop
-    at-most-eight-requires
-    mul-if1
-    add-if1
+    cut-count-requires
+    answer-size-requires
     returns
-    cast-answer-head
     answer-head-requires
     write-head-requires
     loop-holds
-    mul-at
-    add-at
+    answer-size-requires-2
     sub-write-entry
     part-write-entry-start
     part-write-entry-end
-    mul-entry-for
-    array-copy-out-entry-for
-    entry-for-requires
+    cast-write-entry
+    mul-write-entry
+    array-copy-out-write-entry
     write-entry-requires
     add-i
     loop-less
