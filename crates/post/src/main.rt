@@ -1,22 +1,21 @@
 // Reads records from standard input, one after another, posts each on a board of zeros, and writes the board to standard
-// output. A record that is refused is said on standard error. A read or a write that fails, or a length by which the next
-// record cannot be found, is said there too, and then no board is written.
+// output. A record that is refused is told on standard error. Where a read or a write fails, or a length is one that no
+// record has, a message is written there too, and no board.
 ghost use mathlib.Core.Path.{_≡_};
 ghost use Prim.Native.Nat.{_≤_};
 ghost use lib.ListN.{length};
+ghost use Rattle.records.specs.Layout.{LENGTH, answerRoom};
+ghost use Rattle.record_stream.specs.Streams.{longestRest};
 use board::BOARD_SIZE;
 use board::Posted;
 use libc::STDERR_FILENO;
 use libc::STDOUT_FILENO;
-use little_endian::u32_at;
+use record_stream::REASON_ROOM;
+use record_stream::Start;
 use records::ANSWER_ROOM;
+use records::LENGTH_SIZE;
 use std::num::wrapping_add_u64;
 use streams::Got;
-
-// The size of a record's length, and the greatest length that a record has.
-const LENGTH_SIZE: usize = 4;
-
-const LONGEST: usize = ANSWER_ROOM - LENGTH_SIZE;
 
 // Where the next record starts, that there is none, or that the rest cannot be read.
 enum Next {
@@ -57,38 +56,34 @@ fn post_all(board: &mut [u8]) -> bool {
 
 // Posts the record at a place of the input, read into a buffer: the length that it begins with, and then the rest.
 fn post_next(board: &mut [u8], bytes: &mut [u8], place: u64) -> Next
-    requires { ⌜ length (now bytes) ≡ 528 ⌝ }
+    requires { ⌜ length (now bytes) ≡ answerRoom ⌝ }
 {
     match streams::fill(&mut bytes[..LENGTH_SIZE]) {
         Got::Failed => cannot_read(),
-        Got::Bytes(n) => {
-            if n == 0 {
-                return Next::End;
-            }
-            let rest = rest_of(bytes, n);
-            if LONGEST < rest {
-                say(
-                    place,
-                    b"B1: no record has its length, so nothing tells where the next starts, and no board is written",
-                );
-                return Next::Failed;
-            }
-            post_rest(board, bytes, n, rest, place)
+        Got::Bytes(n) => post_after(board, bytes, n, place),
+    }
+}
+
+// Posts the record of which the first n bytes are there, as many as a length has, or fewer at the input's end.
+fn post_after(board: &mut [u8], bytes: &mut [u8], n: usize, place: u64) -> Next
+    requires room { ⌜ length (now bytes) ≡ answerRoom ⌝ }
+    requires head { ⌜ n ≤ LENGTH .width ⌝ }
+{
+    match record_stream::start_of(&bytes[..n]) {
+        Start::End => Next::End,
+        Start::Record(rest) => post_rest(board, bytes, n, rest, place),
+        Start::NoRecord => {
+            tell_length(place);
+            Next::Failed
         }
     }
 }
 
-// How many bytes follow the n that were read: as many as the length says, and none where the input's end cut it short.
-fn rest_of(bytes: &[u8], n: usize) -> usize {
-    if n < LENGTH_SIZE {
-        return 0;
-    }
-    u32_at(bytes, 0) as usize
-}
-
 // Reads the rest of a record, of which n bytes are there, and posts it. One that the input's end cuts short is malformed.
 fn post_rest(board: &mut [u8], bytes: &mut [u8], n: usize, rest: usize, place: u64) -> Next
-    requires { ⌜ (length (now bytes) ≡ 528) × ((n ≤ 4) × (rest ≤ 524)) ⌝ }
+    requires room { ⌜ length (now bytes) ≡ answerRoom ⌝ }
+    requires head { ⌜ n ≤ LENGTH .width ⌝ }
+    requires rest { ⌜ rest ≤ longestRest ⌝ }
 {
     let end = n + rest;
     match streams::fill(&mut bytes[n..end]) {
@@ -109,13 +104,20 @@ fn cannot_read() -> Next {
 fn tell(posted: Posted, place: u64) {
     match posted {
         Posted::Taken => {}
-        Posted::Refused(number) => match number {
-            0 => say(place, b"B0: the board is not one"),
-            1 => say(place, b"B1: it is malformed"),
-            2 => say(place, b"B2: its job is 0"),
-            _ => say(place, b"B3: no slot is free for a new job"),
-        },
+        Posted::Refused(number) => tell_refusal(number, place),
     }
+}
+
+fn tell_refusal(number: u8, place: u64) {
+    let mut words = [0u8; REASON_ROOM];
+    let size = record_stream::reason_of(number, &mut words);
+    say(place, &words[..size]);
+}
+
+fn tell_length(place: u64) {
+    let mut words = [0u8; REASON_ROOM];
+    let size = record_stream::length_reason(&mut words);
+    say(place, &words[..size]);
 }
 
 // Says that the record at a place was refused, and why.

@@ -2,11 +2,12 @@
 use mathlib.Core.Path.{_≡_}
 use borrow.Author.Needs.{needs}
 use lib.ListN.{length}
+use Rattle.records.specs.Layout.{answerRoom}
 use Rattle.post.proofs.post_all.Statement.{statement}
 use Rattle.post.proofs.post_all.Tie as tie
 
 abbrev Inv-loop : tie.InvT-loop
-Inv-loop board₀ bytes₀ left₀ place₀ board bytes left place = (length board ≡ length board₀) × (length bytes ≡ 528)
+Inv-loop board₀ bytes₀ left₀ place₀ board bytes left place = (length board ≡ length board₀) × (length bytes ≡ answerRoom)
 
 abbrev μ-loop : tie.MeasureT-loop
 μ-loop board₀ bytes₀ left₀ place₀ board bytes left place = left
