@@ -4,6 +4,10 @@ use Prim.Native.Nat.{ℕ, zero, suc, _+_, _*_, _/_, _%_, _^_, _≤_, _<_}
 use lib.Ieee.{size}
 use Rattle.float64.specs.Root.{halfLength}
 
+-- the bit pattern of +∞: the positive finite f64s are those of the patterns above 0 and below it
+abbrev pub infinityBits : ℕ
+infinityBits = 0x7FF0_0000_0000_0000
+
 -- the units of 2 ^ -1074 in the positive f64 with the exponent's field x and the digits t: a field of 0 has no leading digit
 abbrev pub unitsAt : ℕ → ℕ → ℕ
 unitsAt zero t = t * 2 ^ 0

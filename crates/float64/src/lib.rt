@@ -3,12 +3,14 @@
 ghost use mathlib.Core.Path.{_≡_};
 ghost use Prim.Native.Nat.{_<_};
 ghost use Rattle.float64.specs.Root.{rootOf, rootOfUnits};
-ghost use Rattle.float64.specs.Internals.{unitsOfBits};
+ghost use Rattle.float64.specs.Internals.{infinityBits, unitsOfBits};
 
+mod bit_patterns;
 mod digits;
 mod operand;
 mod value;
 
+use bit_patterns::LEADING_DIGIT;
 use digits::floor_root;
 use operand::operand_of;
 pub use value::from_bits;
@@ -46,10 +48,10 @@ pub fn square_root(x: f64) -> Root
 // The root of the positive f64 with the bit pattern b: 54 binary digits, rounded to 53, the last of
 // which counts 2^(k + 484) units of 2^-1074. The leading digit adds one to the exponent's field.
 fn positive_root(b: u64) -> f64
-    requires { ⌜ (0 < b) × (b < 0x7FF0_0000_0000_0000) ⌝ }
+    requires { ⌜ (0 < b) × (b < infinityBits) ⌝ }
     ensures { λ r. ⌜ r ≡ rootOfUnits (unitsOfBits b) ⌝ }
 {
     let operand = operand_of(b);
     let root = floor_root(operand.a);
-    f64::from_bits((operand.k + 484) * 0x0010_0000_0000_0000 + (root + 1) / 2)
+    f64::from_bits((operand.k + 484) * LEADING_DIGIT + (root + 1) / 2)
 }

@@ -43,7 +43,7 @@ fn frame_of(frame: &[u8]) -> Frame {
     }
 }
 
-fn flown(frame: &[u8]) -> Velocities {
+fn velocities_of(frame: &[u8]) -> Velocities {
     let triangle = triangle_of(frame);
     let directions = frame_of(frame);
     let mu = number(frame, 0);
@@ -71,7 +71,7 @@ fn answer_one() -> bool {
     if io::read_full(STDIN_FILENO, &mut frame) < 144 {
         return false;
     }
-    let w = flown(&frame);
+    let w = velocities_of(&frame);
     let v1 = w.v1;
     let v2 = w.v2;
     print_vector(v1);
