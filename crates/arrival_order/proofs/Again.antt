@@ -6,8 +6,8 @@ use mathlib.Core.List.{List}
 use mathlib.Core.Logic.{inl, inr, ⊎-elim}
 use Prim.Native.Nat.{ℕ}
 use native.Mathlib.Omega.{arith}
-use Rattle.outcomes.specs.Outcomes.{jobOf}
-use Rattle.slots.specs.Slots.{conflictBytes}
+use Rattle.records.specs.Layout.{jobOf}
+use Rattle.records.specs.Records.{conflictBytes}
 use Rattle.board.specs.Board.{heldOn, emptyBoard, Result, postOf}
 use Rattle.arrival_order.specs.Messages.{postAll, _∈_, AllBytes, CameFor, HeldFor, SomeOf}
 use Rattle.arrival_order.proofs.Joining.{Joining, newer, older, again, clash, joining}

@@ -11,7 +11,7 @@ use lib.ListN.{length, replicate-append-replicate}
 use Rattle.little_endian.specs.Bytes.{AreBytes, bytesOf, numberAt}
 use Rattle.records.specs.Layout.{encode, answerRoom}
 use Rattle.outcomes.specs.Outcomes.{isSized, isRefusal, isOutcome}
-use Rattle.slots.specs.Slots.{conflictFields, conflictBytes, sameBytes}
+use Rattle.slots.specs.Slots.{sameBytes}
 use Rattle.slots.proofs.Padding.{padded-is}
 use Rattle.slots.proofs.Zeros.{both}
 use Rattle.board.specs.declared.Posted.the-variants.{Taken}
@@ -32,7 +32,7 @@ slots-alone n c h =
 
 board-alone : (c : List ℕ) → length c ≤ answerRoom → boardOf (c ∷ []) ≡ alone c
 unfolding boardOf slotsIn alone
-board-alone c h = slots-alone 63 c h
+board-alone c h = slots-alone (SLOTS - 1) c h
 
 -- ---- a record on a board that holds these
 

@@ -6,7 +6,7 @@ use mathlib.Core.Logic.{⊎-elim}
 use Prim.Native.Nat.{ℕ, suc, _<_}
 use native.Mathlib.Omega.{arith}
 use lib.ListN.{length}
-use Rattle.outcomes.specs.Outcomes.{jobOf}
+use Rattle.records.specs.Layout.{jobOf}
 use Rattle.board.specs.Board.{HeldRising, none, next}
 use Rattle.arrival_order.specs.Messages.{_∈_, NoneOf}
 use Rattle.arrival_order.proofs.Placing.{above-all}

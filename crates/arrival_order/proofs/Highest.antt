@@ -7,7 +7,8 @@ use mathlib.Core.List.{List}
 use mathlib.Core.Logic.{inl, inr, _↔_}
 use Prim.Native.Nat.{ℕ, _≤_, _<_}
 use native.Mathlib.Omega.{arith}
-use Rattle.outcomes.specs.Outcomes.{jobOf, revisionOf, isRefusal, isAnswer}
+use Rattle.records.specs.Layout.{jobOf, revisionOf}
+use Rattle.outcomes.specs.Outcomes.{isRefusal, isAnswer}
 use Rattle.slots.specs.Slots.{isConflict}
 use Rattle.board.specs.Board.{heldOn, emptyBoard}
 use Rattle.arrival_order.specs.Messages.{postAll, _∈_, AllBytes, Postable, TwoDiffer, HeldFor}

@@ -9,20 +9,22 @@ use Prim.Native.Nat.{ℕ, _^_, _<_}
 use native.Mathlib.Omega.{arith}
 use borrow.Author.Tests.{ltb-true, ltb-false, le-ltb}
 use lib.Dec.{ltb}
+use Rattle.records.proofs.SingleFields.{conflict-job, conflict-revision}
+use Rattle.records.specs.Records.{conflictBytes}
+use Rattle.records.specs.Layout.{jobOf, revisionOf}
 use Rattle.little_endian.specs.Bytes.{AreBytes}
-use Rattle.outcomes.specs.Outcomes.{jobOf, revisionOf}
-use Rattle.slots.specs.Slots.{conflictBytes, isHeld, sameBytes}
+use Rattle.slots.specs.Slots.{isHeld, sameBytes}
 use Rattle.board.specs.Board.{joined}
 use Rattle.slots.proofs.Zeros.{same-is, same-self, differ-is}
 use Rattle.little_endian.proofs.Numbers.{number-lt}
-use Rattle.slots.proofs.Conflicts.{conflict-job, conflict-revision, conflict-held}
+use Rattle.slots.proofs.Conflicts.{conflict-held}
 
 -- a record's job and revision are numbers of four bytes
 pub small-job : (m : List ℕ) → AreBytes m → jobOf m < 2 ^ 32
-small-job m bytes = number-lt 4 6 m bytes
+small-job m bytes = number-lt (JOB .width) (JOB .offset) m bytes
 
 pub small-revision : (m : List ℕ) → AreBytes m → revisionOf m < 2 ^ 32
-small-revision m bytes = number-lt 4 10 m bytes
+small-revision m bytes = number-lt (REVISION .width) (REVISION .offset) m bytes
 
 pub data Joining (held new : List ℕ) : List ℕ → Type 0 where
   newer : revisionOf held < revisionOf new → Joining held new new

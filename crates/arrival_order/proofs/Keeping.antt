@@ -8,13 +8,15 @@ use mathlib.Core.Logic.{_⊎_, inl, inr, ⊎-elim}
 use Prim.Native.Nat.{ℕ, _≤_, _<_}
 use native.Mathlib.Omega.{arith}
 use lib.ListN.{length}
+use Rattle.records.proofs.SingleFields.{conflict-revision}
+use Rattle.records.specs.Records.{conflictBytes}
+use Rattle.records.specs.Layout.{jobOf, revisionOf}
 use Rattle.little_endian.specs.Bytes.{AreBytes}
-use Rattle.outcomes.specs.Outcomes.{jobOf, revisionOf, isOutcome}
-use Rattle.slots.specs.Slots.{conflictBytes}
+use Rattle.outcomes.specs.Outcomes.{isOutcome}
 use Rattle.board.specs.Board.{SLOTS, placed, HeldRising}
 use Rattle.arrival_order.specs.Messages.{_∈_, AllBytes, Postable, CameFor, OneRecord}
 use Rattle.arrival_order.specs.Messages.{InConflict, TwoDiffer, HeldFor, SomeOf, NoneOf}
-use Rattle.slots.proofs.Conflicts.{conflict-revision, conflict-no-outcome}
+use Rattle.slots.proofs.Conflicts.{conflict-no-outcome}
 use Rattle.slots.proofs.Held.{outcome-held}
 use Rattle.arrival_order.proofs.Joining.{small-revision, Joining, newer, older, again, clash, joining, joined-job}
 use Rattle.arrival_order.proofs.Placing.{placing, placed-rising, Comes, kept, first, met, comes, stays, arrives, Grown, grown}

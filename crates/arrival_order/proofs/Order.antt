@@ -7,8 +7,8 @@ use mathlib.Core.List.{List·Memᴰ·cases-cons as in-first, Memᴰ·cast as of-
 use mathlib.Core.Logic.{inl, inr, ⊎-elim}
 use Prim.Native.Nat.{ℕ}
 use native.Mathlib.Omega.{arith}
-use Rattle.outcomes.specs.Outcomes.{jobOf}
-use Rattle.slots.specs.Slots.{conflictBytes}
+use Rattle.records.specs.Layout.{jobOf}
+use Rattle.records.specs.Records.{conflictBytes}
 use Rattle.board.specs.Board.{heldOn, boardOf, emptyBoard, HeldRising, none, next}
 use Rattle.arrival_order.specs.Messages.{postAll, _∈_, SameMessages, AllBytes, OverFewJobs, HeldFor, BoardAfter}
 use Rattle.board.proofs.Boards.{board-held}

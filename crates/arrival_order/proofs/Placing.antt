@@ -12,8 +12,8 @@ use native.Mathlib.Omega.{arith}
 use borrow.Author.Tests.{ltb-true, ltb-false, lt-ltb, le-ltb, eqb-true, eqb-false, eq-eqb}
 use lib.Dec.{ltb, eqb}
 use lib.ListN.{length}
+use Rattle.records.specs.Layout.{jobOf}
 use Rattle.little_endian.specs.Bytes.{AreBytes}
-use Rattle.outcomes.specs.Outcomes.{jobOf}
 use Rattle.slots.specs.Slots.{isHeld}
 use Rattle.board.specs.Board.{joined, placed, HeldRising, none, next}
 use Rattle.arrival_order.specs.Messages.{_∈_, SomeOf, NoneOf}

@@ -12,11 +12,12 @@ use native.Mathlib.Omega.{arith}
 use borrow.Author.Tests.{ltb-true, ltb-false, lt-ltb, le-ltb, eqb-true, eqb-false, ne-eqb}
 use lib.Dec.{ltb, eqb}
 use lib.ListN.{length}
+use Rattle.records.specs.Layout.{jobOf, revisionOf}
 use Rattle.little_endian.specs.Bytes.{AreBytes}
-use Rattle.outcomes.specs.Outcomes.{jobOf, revisionOf, isOutcome}
+use Rattle.outcomes.specs.Outcomes.{isOutcome}
 use Rattle.board.specs.declared.Posted.the-variants.{Taken, Refused}
 use Rattle.board.specs.Board.{SLOTS, isBoard, heldOn, boardOf, emptyBoard, joined, placed}
-use Rattle.board.specs.Board.{Result, refused, postOf, placedOn, numberGiven, none}
+use Rattle.board.specs.Board.{Result, boardRefusal, postOf, placedOn, postedNumber, none}
 use Rattle.arrival_order.specs.Messages.{_∈_, AllBytes, Postable, postAll, NoneOf}
 use Rattle.slots.proofs.Held.{outcome-held}
 use Rattle.board.proofs.Boards.{board-held, held-board, empty-board}
@@ -28,10 +29,10 @@ abbrev pub taking : List ℕ → List ℕ → Result
 taking b new = record { posted = Taken; board = boardOf (placed (heldOn b) new) }
 
 pub data Posting (b new : List ℕ) : Result → Type 0 where
-  no-board : isBoard b ≡ false → Posting b new (refused 0 b)
-  malformed : isBoard b ≡ true → isOutcome new ≡ false → Posting b new (refused 1 b)
-  unnamed : isBoard b ≡ true → isOutcome new ≡ true → jobOf new ≡ 0 → Posting b new (refused 2 b)
-  full : isBoard b ≡ true → Postable new → SLOTS < length (placed (heldOn b) new) → Posting b new (refused 3 b)
+  no-board : isBoard b ≡ false → Posting b new (boardRefusal 0 b)
+  malformed : isBoard b ≡ true → isOutcome new ≡ false → Posting b new (boardRefusal 1 b)
+  unnamed : isBoard b ≡ true → isOutcome new ≡ true → jobOf new ≡ 0 → Posting b new (boardRefusal 2 b)
+  full : isBoard b ≡ true → Postable new → SLOTS < length (placed (heldOn b) new) → Posting b new (boardRefusal 3 b)
   taken : isBoard b ≡ true → Postable new → length (placed (heldOn b) new) ≤ SLOTS → Posting b new (taking b new)
 
 module _ (b new : List ℕ) where
@@ -44,8 +45,8 @@ module _ (b new : List ℕ) where
 
       by : (board : Bool) → isBoard b ≡ board → (outcome : Bool) → isOutcome new ≡ outcome → (zero : Bool) → eqb (jobOf new) 0 ≡ zero
           → (over : Bool) → ltb SLOTS (length (placed (heldOn b) new)) ≡ over →
-          Posting b new (cond (not board) (refused 0 b)
-          (cond (not outcome) (refused 1 b) (cond zero (refused 2 b) (cond over (refused 3 b) (taking b new)))))
+          Posting b new (cond (not board) (boardRefusal 0 b)
+          (cond (not outcome) (boardRefusal 1 b) (cond zero (boardRefusal 2 b) (cond over (boardRefusal 3 b) (taking b new)))))
       by false e outcome f zero g over h = no-board e
       by true e false f zero g over h = malformed e f
       by true e true f true g over h = unnamed e f (eqb-true (jobOf new) 0 g)
@@ -92,11 +93,11 @@ module _ (b new : List ℕ) where
     where
       by : {o : Result} → Posting b new o → o .posted ≡ Refused 3
           → (isBoard b ≡ true) × (Postable new × ((length (heldOn b) ≡ SLOTS) × NoneOf (jobOf new) (heldOn b)))
-      by (no-board f) e = absurd (omega (arith, ap numberGiven e))
-      by (malformed f g) e = absurd (omega (arith, ap numberGiven e))
-      by (unnamed f g h) e = absurd (omega (arith, ap numberGiven e))
+      by (no-board f) e = absurd (omega (arith, ap postedNumber e))
+      by (malformed f g) e = absurd (omega (arith, ap postedNumber e))
+      by (unnamed f g h) e = absurd (omega (arith, ap postedNumber e))
       by (full f postable over) e = (f, (postable, no-room f over))
-      by (taken f postable room) e = absurd (omega (arith, ap numberGiven e))
+      by (taken f postable room) e = absurd (omega (arith, ap postedNumber e))
 
   -- it changes nothing of what is held of its job
   pub taken-same : (held : List ℕ) → isBoard b ≡ true → Postable new → held ∈ heldOn b → jobOf held ≡ jobOf new → joined held new ≡ held
@@ -181,7 +182,7 @@ never-b0 ms m all e = by (posting (postAll emptyBoard ms) m) e
   where
     by : {o : Result} → Posting (postAll emptyBoard ms) m o → o .posted ≡ Refused 0 → ⊥
     by (no-board f) e = true≢false (sym (always-board ms all) ∙ f)
-    by (malformed f g) e = omega (arith, ap numberGiven e)
-    by (unnamed f g h) e = omega (arith, ap numberGiven e)
-    by (full f postable over) e = omega (arith, ap numberGiven e)
-    by (taken f postable room) e = omega (arith, ap numberGiven e)
+    by (malformed f g) e = omega (arith, ap postedNumber e)
+    by (unnamed f g h) e = omega (arith, ap postedNumber e)
+    by (full f postable over) e = omega (arith, ap postedNumber e)
+    by (taken f postable room) e = omega (arith, ap postedNumber e)

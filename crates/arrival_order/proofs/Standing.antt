@@ -10,8 +10,8 @@ use mathlib.Core.Logic.{_⊎_, inl, inr, ⊎-elim}
 use Prim.Native.Nat.{ℕ, _<_}
 use native.Mathlib.Omega.{arith}
 use lib.ListN.{length}
+use Rattle.records.specs.Layout.{jobOf}
 use Rattle.little_endian.specs.Bytes.{AreBytes}
-use Rattle.outcomes.specs.Outcomes.{jobOf}
 use Rattle.board.specs.Board.{SLOTS, isBoard, heldOn, emptyBoard, Result, postOf, none}
 use Rattle.arrival_order.specs.Messages.{postAll, _∈_, SameMessages, AllBytes, Postable}
 use Rattle.arrival_order.specs.Messages.{OverFewJobs, SomeOf, NoneOf, HeldFor, BoardAfter}

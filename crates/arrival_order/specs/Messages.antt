@@ -5,9 +5,10 @@ use mathlib.Core.Bool.{true}
 use mathlib.Core.List.{List, [], _∷_, List·Memᴰ}
 use mathlib.Core.Logic.{_⊎_}
 use lib.ListN.{length}
+use Rattle.records.specs.Records.{conflictBytes}
+use Rattle.records.specs.Layout.{jobOf, revisionOf}
 use Rattle.little_endian.specs.Bytes.{AreBytes}
-use Rattle.outcomes.specs.Outcomes.{jobOf, revisionOf, isOutcome}
-use Rattle.slots.specs.Slots.{conflictBytes}
+use Rattle.outcomes.specs.Outcomes.{isOutcome}
 use Rattle.board.specs.Board.{SLOTS, isBoard, heldOn, boardOf}
 unfoldable pub use Rattle.board.specs.Posting.{postAll}
 

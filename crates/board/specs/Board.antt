@@ -81,21 +81,21 @@ pub record Result : Type 0 where
   pub board : List ℕ
 
 -- a refusal, B0 to B3 by its number, leaves the board unchanged
-abbrev pub unchanged : ℕ → List ℕ → Result
-unchanged number b = record { posted = Refused number; board = b }
+abbrev pub boardRefusal : ℕ → List ℕ → Result
+boardRefusal number b = record { posted = Refused number; board = b }
 
 -- a record that counts, on a board. B3: no free slot for a new job
 unfoldable pub placedOn : List ℕ → List ℕ → Result
 placedOn b new =
     let after = placed (heldOn b) new in
-    cond (ltb SLOTS (length after)) (unchanged 3 b) (record { posted = Taken; board = boardOf after })
+    cond (ltb SLOTS (length after)) (boardRefusal 3 b) (record { posted = Taken; board = boardOf after })
 
 -- any record, on any bytes. B0: not a board; B1: a malformed record; B2: job 0
 unfoldable pub postOf : List ℕ → List ℕ → Result
 postOf b new =
-    cond (not (isBoard b)) (unchanged 0 b)
-    (cond (not (isOutcome new)) (unchanged 1 b)
-    (cond (eqb (jobOf new) 0) (unchanged 2 b) (placedOn b new)))
+    cond (not (isBoard b)) (boardRefusal 0 b)
+    (cond (not (isOutcome new)) (boardRefusal 1 b)
+    (cond (eqb (jobOf new) 0) (boardRefusal 2 b) (placedOn b new)))
 
 -- the call's result as one number: that of the refusal, and 255 for a record that was taken
 abbrev pub postedNumber : Posted → ℕ

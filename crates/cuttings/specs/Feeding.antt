@@ -6,11 +6,11 @@ use mathlib.Core.List.{List, [], _∷_, _++_, map, List·Memᴰ}
 use lib.Dec.{eqb}
 use lib.ListN.{length, take, drop}
 use Rattle.little_endian.specs.Bytes.{written}
-use Rattle.records.specs.Layout.{LENGTH, valueOf}
+use Rattle.records.specs.Layout.{LENGTH, valueOf, sizeOf}
 use Rattle.link_reader.specs.declared.Reader.{Reader}
 use Rattle.link_reader.specs.declared.Came.{Came}
 use Rattle.link_reader.specs.declared.Came.the-variants.{Question, Nothing, BadLength, NeedsReset}
-use Rattle.link_reader.specs.Reading.{Refusal, refusalOf, keptOf, blank, asNew, afterRefusal, isQuestionLength, sizeOf, readOf}
+use Rattle.link_reader.specs.Reading.{Refusal, refusalOf, keptOf, blank, asNew, afterRefusal, isQuestionLength, readOf}
 use Rattle.link_reader.specs.Verdicts.{Verdict}
 
 -- what a reader gives out: the bytes of a question, or a refusal

@@ -7,11 +7,11 @@ use native.Mathlib.Omega.{arith}
 use borrow.Author.Tests.{ltb-true, ltb-false, lt-ltb, le-ltb}
 use lib.Dec.{ltb}
 use lib.ListN.{length}
-use Rattle.records.specs.Layout.{LENGTH, questionRoom, valueOf}
+use Rattle.records.specs.Layout.{LENGTH, questionRoom, valueOf, sizeOf}
 use Rattle.link_reader.specs.declared.Reader.{Reader}
 use Rattle.link_reader.specs.declared.Came.{Came}
 use Rattle.link_reader.specs.declared.Came.the-variants.{Question, Nothing, BadLength, NeedsReset}
-use Rattle.link_reader.specs.Reading.{keptOf, isQuestionLength, sizeOf, judged, cameOf}
+use Rattle.link_reader.specs.Reading.{keptOf, isQuestionLength, judged, cameOf}
 use Rattle.link_reader.specs.Verdicts.{Verdict, few, bad, part, whole}
 use Rattle.link_reader.proofs.Lengths.{in-force-fits}
 

@@ -1,11 +1,11 @@
 -- The reader of questions that come over a link in pieces (02, A2): its state, and what one call makes of a piece. Definitions only.
-use Prim.Native.Nat.{ℕ, _+_, _-_}
+use Prim.Native.Nat.{ℕ, _-_}
 use mathlib.Core.Bool.{Bool, true, false, cond, not, _||_}
 use mathlib.Core.List.{List, [], _∷_, _++_}
 use lib.Dec.{eqb, ltb}
 use lib.ListN.{length, take, replicate}
 use Rattle.little_endian.specs.Bytes.{written}
-use Rattle.records.specs.Layout.{LENGTH, questionLengths, questionRoom, valueOf}
+use Rattle.records.specs.Layout.{LENGTH, questionLengths, questionRoom, valueOf, sizeOf}
 use Rattle.link_reader.specs.declared.Reader.{Reader}
 use Rattle.link_reader.specs.declared.Step.{Step}
 use Rattle.link_reader.specs.declared.Came.{Came}
@@ -33,10 +33,6 @@ isAmong n (m ∷ ms) = eqb n m || isAmong n ms
 
 abbrev pub isQuestionLength : ℕ → Bool
 isQuestionLength n = isAmong n questionLengths
-
--- the size of the question that some bytes begin, by its length, which counts what follows it
-abbrev pub sizeOf : List ℕ → ℕ
-sizeOf held = LENGTH .width + valueOf LENGTH held
 
 -- what has come by the bytes held, the kept ones and those of the piece: the length is judged once its four bytes are in
 unfoldable pub judged : List ℕ → Came

@@ -4,10 +4,10 @@ use mathlib.Core.Path.{_≡_}
 use mathlib.Core.Bool.{true, false}
 use mathlib.Core.List.{List}
 use lib.ListN.{length}
-use Rattle.records.specs.Layout.{LENGTH, valueOf}
+use Rattle.records.specs.Layout.{LENGTH, valueOf, sizeOf}
 use Rattle.link_reader.specs.declared.Came.{Came}
 use Rattle.link_reader.specs.declared.Came.the-variants.{Question, Nothing, BadLength}
-use Rattle.link_reader.specs.Reading.{isQuestionLength, sizeOf}
+use Rattle.link_reader.specs.Reading.{isQuestionLength}
 
 -- nothing yet: fewer bytes than a length has, or fewer than the length says; a length that is not in force, once it is in; a question whole, of the size that its length says
 pub data Verdict (s : List ℕ) : Came → Type 0 where

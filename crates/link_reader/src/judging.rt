@@ -40,11 +40,11 @@ fn judge(kept: &[u8], piece: &[u8]) -> Came
     if piece.len() < missing(kept.len(), LENGTH_SIZE) {
         return Came::Nothing;
     }
-    let length = length_of(kept, piece);
+    let length = held_length(kept, piece);
     if !is_question_length(length) {
         return Came::BadLength;
     }
-    let size = LENGTH_SIZE + length as usize;
+    let size = length as usize + LENGTH_SIZE;
     if piece.len() < missing(kept.len(), size) {
         return Came::Nothing;
     }
@@ -65,7 +65,7 @@ pub(crate) fn missing(count: usize, size: usize) -> usize
 }
 
 // The length that the kept bytes and a piece begin with.
-fn length_of(kept: &[u8], piece: &[u8]) -> u32
+fn held_length(kept: &[u8], piece: &[u8]) -> u32
     ensures { λ r. ⌜ r ≡ valueOf LENGTH (now (kept .entry) ++ now (piece .entry)) ⌝ }
 {
     let b0 = byte_of(kept, piece, 0);
@@ -77,7 +77,8 @@ fn length_of(kept: &[u8], piece: &[u8]) -> u32
 
 // A byte of the kept ones and a piece after them, 0 past the end.
 fn byte_of(kept: &[u8], piece: &[u8], i: usize) -> u32
-    ensures { λ r. ⌜ (r ≡ getD (now (kept .entry) ++ now (piece .entry)) i 0) × (r < 256) ⌝ }
+    ensures result { λ r. ⌜ r ≡ getD (now (kept .entry) ++ now (piece .entry)) i 0 ⌝ }
+    ensures byte { λ r. ⌜ r < 256 ⌝ }
 {
     if i < kept.len() {
         return kept[i] as u32;

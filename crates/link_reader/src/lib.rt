@@ -23,8 +23,8 @@ pub struct Reader {
     pub refused: bool,
 }
 
-// What comes of a piece: a finished question and its size, nothing yet, a length that is not in force, which is refusal 1, or
-// that the reader needs a reset, which is refusal B4.
+// What comes of a piece: a finished question and its size, nothing yet, a length that is not in force, which is refused, or
+// that the reader needs a reset, which is a refusal too. The definition `refusalOf` has the numbers of both.
 pub enum Came {
     Question(usize),
     Nothing,

@@ -10,7 +10,7 @@ use native.Mathlib.Omega.{arith}
 use borrow.Author.Tests.{eqb-true, eqb-false, ne-eqb}
 use lib.Dec.{eqb, ltb}
 use lib.ListN.{length, length-map}
-use Rattle.records.specs.Layout.{mostEntries}
+use Rattle.records.specs.Layout.{mostEntries, firstNumber, lastNumber}
 use Rattle.records.specs.Records.{questionOf, answerBytes}
 use Rattle.records.specs.declared.Entry.{Entry}
 use Rattle.geometry.specs.Triangles.{shapeOf}
@@ -25,7 +25,6 @@ use Rattle.bisection.specs.declared.Bracket.{Bracket}
 use Rattle.crossing_laws.proofs.Theorems.{length-is}
 use Rattle.entries.specs.Entries.{entryFor}
 use Rattle.entries.proofs.Ends.{entry-names}
-use Rattle.outcomes.specs.Outcomes.{firstNumber, lastNumber}
 use Rattle.solution.specs.Crossed.{sidesOf, lastStation, bracketsOf, entriesOf}
 use Rattle.solution.specs.Table.{crossingCount, anyVoid, allFinite, lateChecks}
 use Rattle.solution.specs.Solve.{longest, refusalFor, refusalBytes, recordAfter, recordOf}

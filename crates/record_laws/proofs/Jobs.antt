@@ -8,7 +8,7 @@ use native.Mathlib.Omega.{arith}
 use lib.ListN.{length}
 use Rattle.little_endian.specs.Bytes.{AreBytes, numberAt, bytesOf}
 use Rattle.little_endian.proofs.Numbers.{number-lt}
-use Rattle.records.specs.Layout.{JOB, REVISION, mostEntries, encode, headFields}
+use Rattle.records.specs.Layout.{JOB, REVISION, mostEntries, encode, headFields, jobOf, revisionOf}
 use Rattle.records.specs.Records.{questionOf, headOf, headBytes, refusalOf, answerHeadOf, answerBytes}
 use Rattle.records.specs.declared.Head.{Head}
 use Rattle.records.specs.declared.Entry.{Entry}
@@ -16,7 +16,6 @@ use Rattle.records.proofs.RoundTrip.{head-back}
 use Rattle.records.proofs.Answers.{answer-head-back}
 use Rattle.records.proofs.Reading.{refusal-held, answer-held}
 use Rattle.entrance.specs.Table.{Exactly}
-use Rattle.outcomes.specs.Outcomes.{jobOf, revisionOf}
 use Rattle.solution.specs.Solve.{recordOf}
 use Rattle.record_laws.specs.RecordForm.{RecordForm, malformed, refusal, answer, notQuestion, JobNamed}
 use Rattle.record_laws.proofs.Forms.{record-form}

@@ -7,8 +7,9 @@ use Prim.Native.Nat.{ℕ}
 use native.Mathlib.Omega.{arith}
 use lib.Dec.{eqb, ltb}
 use lib.ListN.{length}
+use Rattle.records.specs.Layout.{jobOf}
 use Rattle.records.specs.Records.{questionOf}
-use Rattle.outcomes.specs.Outcomes.{jobOf, isOutcome}
+use Rattle.outcomes.specs.Outcomes.{isOutcome}
 use Rattle.outcomes.proofs.Written.{refusal-outcome, answer-outcome}
 use Rattle.solution.specs.Solve.{recordOf}
 use Rattle.board.specs.Board.{SLOTS, isBoard, heldOn, boardOf, placed, refused, placedOn, postOf}

@@ -4,11 +4,10 @@ use mathlib.Core.Path.{_≡_}
 use mathlib.Core.List.{List, List·Memᴰ}
 use Prim.Native.Nat.{ℕ, _≤_, _<_}
 use lib.ListN.{length}
-use Rattle.records.specs.Layout.{mostEntries}
+use Rattle.records.specs.Layout.{mostEntries, jobOf, revisionOf, firstNumber, lastNumber}
 use Rattle.records.specs.Records.{questionOf, headBytes, refusalOf, answerBytes}
 use Rattle.records.specs.declared.Entry.{Entry}
 use Rattle.entrance.specs.Table.{Exactly}
-use Rattle.outcomes.specs.Outcomes.{jobOf, revisionOf, firstNumber, lastNumber}
 use Rattle.solution.specs.Solve.{recordOf}
 
 -- the refusal of number 1: the bytes are not a question, and it names no job

@@ -1,14 +1,14 @@
 -- `judging::judge` meets its contract: each way out is one of the four verdicts.
 use mathlib.Core.Path.{_≡_, sym, ap, _∙_}
-use Prim.Native.Nat.{ℕ, _+_}
-use mathlib.Core.List.{_++_}
+use Prim.Native.Nat.{ℕ, _+_, _≤_}
+use mathlib.Core.Bool.{true}
+use mathlib.Core.List.{List, _++_}
 use native.Mathlib.Omega.{arith}
 use borrow.Author.Needs.{needs}
 use borrow.Author.Tests.{not-true, not-false}
 use lib.ListN.{length, length-append}
-use Rattle.records.specs.Layout.{LENGTH, valueOf}
+use Rattle.records.specs.Layout.{LENGTH, valueOf, sizeOf}
 use Rattle.link_reader.specs.Reading.{isQuestionLength}
-use Rattle.link_reader.specs.declared.Came.the-variants.{Question}
 use Rattle.link_reader.specs.Verdicts.{few, bad, part, whole}
 use Rattle.link_reader.proofs.Verdicts.{judged-by}
 use Rattle.link_reader.proofs.judging.judge.Statement.{statement}
@@ -19,21 +19,39 @@ missing-requires c κs = search needs
 
 returns : tie.Need-returns
 returns c =
-    let a = c .before .before .before .before .args in
-    let h = a .kept .now ++ a .piece .now in
-    sym (judged-by (few (omega (arith, length-append (a .kept .now) (a .piece .now), c .if1 .taken, c .before .missing .ensures))))
+    let asked = c .before in
+    let a = asked .before .before .before .args in
+    let long = length-append (a .kept .now) (a .piece .now) in
+    sym (judged-by (few (omega (arith, long, c .if1 .taken, asked .missing .ensures))))
 
-length-of-requires : tie.Need-length-of-requires
-length-of-requires c κs = search needs
+held-length-requires : tie.Need-held-length-requires
+held-length-requires c κs = search needs
 
 is-question-length-requires : tie.Need-is-question-length-requires
 is-question-length-requires c κs = search needs
 
+-- the bytes held, once the length's are in
+abbrev held-at : tie.After-is-question-length → List ℕ
+held-at c =
+    let a = c .before .before .before .before .before .before .args in
+    a .kept .now ++ a .piece .now
+
+length-in : (c : tie.After-is-question-length) → LENGTH .width ≤ length (held-at c)
+length-in c =
+    let enough = c .before .before in
+    let asked = enough .before in
+    let a = asked .before .before .before .args in
+    omega (arith, length-append (a .kept .now) (a .piece .now), enough .if1 .left, asked .missing .ensures)
+
+-- what was found of the length
+in-force : (c : tie.After-is-question-length) → isQuestionLength (valueOf LENGTH (held-at c)) ≡ c .is-question-length .result
+in-force c = sym (ap isQuestionLength (c .before .held-length .ensures)) ∙ sym (c .is-question-length .ensures)
+
 returns-2 : tie.Need-returns-2
 returns-2 c =
-    let a = c .before .before .before .before .before .before .before .args in
-    let e = sym (ap isQuestionLength (c .before .before .length-of .ensures)) ∙ sym (c .before .is-question-length .ensures) ∙ not-true (c .before .is-question-length .result) (c .if2 .taken) in
-    sym (judged-by (bad (omega (arith, length-append (a .kept .now) (a .piece .now), c .before .before .before .if1 .left, c .before .before .before .before .missing .ensures)) e))
+    let tested = c .before in
+    let other = in-force tested ∙ not-true (tested .is-question-length .result) (c .if2 .taken) in
+    sym (judged-by (bad (length-in tested) other))
 
 cast-size : tie.Need-cast-size
 cast-size c = search needs
@@ -44,21 +62,32 @@ add-size c = search needs
 missing-requires-2 : tie.Need-missing-requires-2
 missing-requires-2 c κs = search needs
 
+-- the length is in force, and the size is what it says
+good : (c : tie.Else2) → isQuestionLength (valueOf LENGTH (held-at (c .before))) ≡ true
+good c =
+    let tested = c .before in
+    in-force tested ∙ not-false (tested .is-question-length .result) (c .if2 .left)
+
 returns-3 : tie.Need-returns-3
 returns-3 c =
-    let a = c .before .before .before .before .before .before .before .before .before .args in
+    let asked = c .before in
+    let taken = asked .before in
+    let tested = taken .before in
+    let a = tested .before .before .before .before .before .before .args in
     let long = length-append (a .kept .now) (a .piece .now) in
-    let n = c .before .before .before .before .length-of .ensures in
-    let e = sym (ap isQuestionLength n) ∙ sym (c .before .before .before .is-question-length .ensures) ∙ not-false (c .before .before .before .is-question-length .result) (c .before .before .if2 .left) in
-    sym (judged-by (part (omega (arith, long, c .before .before .before .before .before .if1 .left, c .before .before .before .before .before .before .missing .ensures)) e (omega (arith, long, n, c .if3 .taken, c .before .missing2 .ensures))))
+    let says = tested .before .held-length .ensures in
+    sym (judged-by (part (length-in tested) (good taken) (omega (arith, long, says, c .if3 .taken, asked .missing2 .ensures))))
 
 returns-4 : tie.Need-returns-4
 returns-4 c =
-    let a = c .before .before .before .before .before .before .before .before .before .args in
+    let asked = c .before in
+    let taken = asked .before in
+    let tested = taken .before in
+    let a = tested .before .before .before .before .before .before .args in
     let long = length-append (a .kept .now) (a .piece .now) in
-    let n = c .before .before .before .before .length-of .ensures in
-    let e = sym (ap isQuestionLength n) ∙ sym (c .before .before .before .is-question-length .ensures) ∙ not-false (c .before .before .before .is-question-length .result) (c .before .before .if2 .left) in
-    sym (judged-by (whole (omega (arith, long, c .before .before .before .before .before .if1 .left, c .before .before .before .before .before .before .missing .ensures)) e (omega (arith, long, n, c .if3 .left, c .before .missing2 .ensures)) (ap (λ (k : ℕ). 4 + k) (sym n))))
+    let says = tested .before .held-length .ensures in
+    let all : sizeOf (held-at tested) ≤ length (held-at tested) = omega (arith, long, says, c .if3 .left, asked .missing2 .ensures) in
+    sym (judged-by (whole (length-in tested) (good taken) all (ap (λ (k : ℕ). k + LENGTH .width) (sym says))))
 
 pub judge-spec : {M : Type 1} → statement M
 judge-spec =
@@ -66,7 +95,7 @@ judge-spec =
     (tie.spec
     missing-requires
     returns
-    length-of-requires
+    held-length-requires
     is-question-length-requires
     returns-2
     cast-size

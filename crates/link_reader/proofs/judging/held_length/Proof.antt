@@ -1,8 +1,8 @@
--- `judging::length_of` meets its contract: four bytes, the lowest first.
+-- `judging::held_length` meets its contract: four bytes, the lowest first.
 use borrow.Author.Needs.{needs}
 use Rattle.little_endian.specs.Bytes.{numberAt}
-use Rattle.link_reader.proofs.judging.length_of.Statement.{statement}
-use Rattle.link_reader.proofs.judging.length_of.Tie as tie
+use Rattle.link_reader.proofs.judging.held_length.Statement.{statement}
+use Rattle.link_reader.proofs.judging.held_length.Tie as tie
 
 byte-of-requires : tie.Need-byte-of-requires
 byte-of-requires c κs = search needs
@@ -38,8 +38,8 @@ returns : tie.Need-returns
 unfolding numberAt
 returns c = search needs
 
-pub length-of-spec : {M : Type 1} → statement M
-length-of-spec =
+pub held-length-spec : {M : Type 1} → statement M
+held-length-spec =
     tie.close
     (tie.spec
     byte-of-requires
