@@ -5,6 +5,7 @@
 ghost use Prim.Native.Nat.{_≤_};
 use board::BOARD_SIZE;
 use board::Posted;
+use board::SLOTS;
 use libc::STDIN_FILENO;
 use libc::STDOUT_FILENO;
 use little_endian::u16_at;
@@ -12,7 +13,7 @@ use little_endian::u32_at;
 use std::num::wrapping_add_u64;
 
 // The buffer: a board and one slot more.
-const ROOM: usize = 34320;
+const ROOM: usize = BOARD_SIZE + BOARD_SIZE / SLOTS;
 
 // What to do next: go on with so many bytes lent as the board, with a board of zeros, or stop.
 enum Next {
@@ -80,7 +81,8 @@ fn lent_size() -> usize {
 }
 
 fn at_most(n: usize, limit: usize) -> usize
-    ensures { λ r. ⌜ (r ≤ limit) × (r ≤ n) ⌝ }
+    ensures limit { λ r. ⌜ r ≤ limit ⌝ }
+    ensures number { λ r. ⌜ r ≤ n ⌝ }
 {
     if n < limit { n } else { limit }
 }
