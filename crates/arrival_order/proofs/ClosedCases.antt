@@ -9,7 +9,8 @@ use borrow.Author.Tests.{ltb-true, le-ltb}
 use lib.Dec.{ltb}
 use lib.ListN.{length, replicate-append-replicate}
 use Rattle.little_endian.specs.Bytes.{AreBytes, bytesOf, numberAt}
-use Rattle.records.specs.Layout.{encode, answerRoom}
+use Rattle.records.specs.Records.{conflictBytes}
+use Rattle.records.specs.Layout.{encode, answerRoom, conflictFields}
 use Rattle.outcomes.specs.Outcomes.{isSized, isRefusal, isOutcome}
 use Rattle.slots.specs.Slots.{sameBytes}
 use Rattle.slots.proofs.Padding.{padded-is}

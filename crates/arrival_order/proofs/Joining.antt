@@ -11,7 +11,7 @@ use borrow.Author.Tests.{ltb-true, ltb-false, le-ltb}
 use lib.Dec.{ltb}
 use Rattle.records.proofs.SingleFields.{conflict-job, conflict-revision}
 use Rattle.records.specs.Records.{conflictBytes}
-use Rattle.records.specs.Layout.{jobOf, revisionOf}
+use Rattle.records.specs.Layout.{JOB, REVISION, jobOf, revisionOf}
 use Rattle.little_endian.specs.Bytes.{AreBytes}
 use Rattle.slots.specs.Slots.{isHeld, sameBytes}
 use Rattle.board.specs.Board.{joined}
