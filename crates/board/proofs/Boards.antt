@@ -14,7 +14,8 @@ use Rattle.slots.specs.Slots.{padded, slotOf, contentOf, isFilled, isZero}
 use Rattle.slots.proofs.Padding.{padded-length}
 use Rattle.slots.proofs.Zeros.{both, zero-is, zeros-zero, zero-append}
 use Rattle.slots.proofs.Held.{content-back, slot-filled, slot-not-zero, slot-job, content-held, slot-back, content-job}
-use Rattle.board.specs.Board.{SLOTS, boardSize, inOrder, isBoard, heldIn, heldOn, slotsBytes, boardOf, emptyBoard, HeldRising, none, next}
+use Rattle.board.specs.Board.{SLOTS, boardSize, inOrder, isBoard, heldIn, heldOn, slotsBytes}
+use Rattle.board.specs.Board.{boardOf, emptyBoard, HeldRising, none, next}
 
 -- ---- bytes and zeros
 

@@ -1,5 +1,6 @@
--- A board checked slot by slot is checked as `isBoard` says: up to the first slot whose length is 0 each is filled and the jobs rise, and all
--- after it are zeros (`checked`). One slot more of a count (`count-next`, `count-ends`) and of the test (`rising-next`) is a turn of a loop.
+-- A board checked slot by slot is checked as `isBoard` says: up to the first slot whose length is 0 each is filled and
+-- the jobs rise, and all after it are zeros (`checked`). One slot more of a count (`count-next`, `count-ends`) and of
+-- the test (`rising-next`) is a turn of a loop.
 use mathlib.Core.Path.{_≡_, refl, sym, ap, _∙_}
 use mathlib.Core.Bool.{Bool, true, false, cond, not, _&&_, and-assoc, or-false}
 use mathlib.Core.List.{List, [], _∷_}

@@ -55,15 +55,20 @@ module _ (m : ℕ) (pre post : List (List ℕ)) where
   around c = slots-append (suc m) pre (c ∷ post) ∙ ap (λ l. slotsBytes pre ++ l) (slots-next m c post)
 
   from-slot : (c : List ℕ) → drop (length pre * answerRoom) (slotsIn (length pre + suc m) (pre ++ (c ∷ post))) ≡ slotOf c ++ slotsIn m post
-  from-slot c = ap (drop (length pre * answerRoom)) (around c) ∙ drop-at (slotsBytes pre) (slotOf c ++ slotsIn m post) (length pre * answerRoom) (slots-size pre)
+  from-slot c =
+      ap (drop (length pre * answerRoom)) (around c)
+      ∙ drop-at (slotsBytes pre) (slotOf c ++ slotsIn m post) (length pre * answerRoom) (slots-size pre)
 
   the-slot : (c : List ℕ) → midOf (length pre * answerRoom) answerRoom (slotsIn (length pre + suc m) (pre ++ (c ∷ post))) ≡ slotOf c
   the-slot c = ap (take answerRoom) (from-slot c) ∙ take-at (slotOf c) (slotsIn m post) answerRoom (padded-length answerRoom c)
 
-  put-slot : (c x : List ℕ) → putMid (length pre * answerRoom) answerRoom (slotsIn (length pre + suc m) (pre ++ (c ∷ post))) (slotOf x) ≡ slotsIn (length pre + suc m) (pre ++ (x ∷ post))
+  put-slot : (c x : List ℕ)
+      → putMid (length pre * answerRoom) answerRoom (slotsIn (length pre + suc m) (pre ++ (c ∷ post))) (slotOf x)
+      ≡ slotsIn (length pre + suc m) (pre ++ (x ∷ post))
   put-slot c x =
       let before : take (length pre * answerRoom) (slotsIn (length pre + suc m) (pre ++ (c ∷ post))) ≡ slotsBytes pre =
-      ap (take (length pre * answerRoom)) (around c) ∙ take-at (slotsBytes pre) (slotOf c ++ slotsIn m post) (length pre * answerRoom) (slots-size pre) in
+      ap (take (length pre * answerRoom)) (around c)
+      ∙ take-at (slotsBytes pre) (slotOf c ++ slotsIn m post) (length pre * answerRoom) (slots-size pre) in
       let behind : drop answerRoom (drop (length pre * answerRoom) (slotsIn (length pre + suc m) (pre ++ (c ∷ post)))) ≡ slotsIn m post =
       ap (drop answerRoom) (from-slot c) ∙ drop-at (slotOf c) (slotsIn m post) answerRoom (padded-length answerRoom c) in
       rw (before, behind) (sym (around x))
@@ -75,13 +80,21 @@ unfolding movedUp
 put-moved p q P Q zs Z X hp hq hz =
     let b = P ++ (Q ++ (zs ++ Z)) in
     let first = take (p + answerRoom) b in
-    let long : length first ≡ p + answerRoom = length-take-le (p + answerRoom) b (omega (arith, length-append P (Q ++ (zs ++ Z)), length-append Q (zs ++ Z), length-append zs Z, hp, hq, hz)) in
+    let long : length first ≡ p + answerRoom =
+    length-take-le (p + answerRoom) b
+    (omega (arith, length-append P (Q ++ (zs ++ Z)), length-append Q (zs ++ Z), length-append zs Z, hp, hq, hz)) in
     let middle : take (p + q - p) (drop p b) ≡ Q = rw (drop-at P (Q ++ (zs ++ Z)) p hp, back p q) (take-at Q (zs ++ Z) q hq) in
     let last : drop (p + q + answerRoom) b ≡ Z =
-    sym (drop-drop answerRoom (p + q) b) ∙ ap (drop answerRoom) (sym (drop-drop q p b)) ∙ ap (λ l. drop answerRoom (drop q l)) (drop-at P (Q ++ (zs ++ Z)) p hp) ∙ ap (drop answerRoom) (drop-at Q (zs ++ Z) q hq) ∙ drop-at zs Z answerRoom hz in
-    let whole : first ++ take (p + q - p) (drop p b) ++ drop (p + q + answerRoom) b ≡ first ++ (Q ++ Z) = rw (middle, last) (append-assoc first Q Z) in
-    let before : take p (first ++ (Q ++ Z)) ≡ P = take-append-le p first (Q ++ Z) (omega (arith, long)) ∙ take-take p (p + answerRoom) b (omega arith) ∙ take-at P (Q ++ (zs ++ Z)) p hp in
-    let behind : drop answerRoom (drop p (first ++ (Q ++ Z))) ≡ Q ++ Z = drop-drop answerRoom p (first ++ (Q ++ Z)) ∙ drop-at first (Q ++ Z) (p + answerRoom) long in
+    sym (drop-drop answerRoom (p + q) b) ∙ ap (drop answerRoom) (sym (drop-drop q p b))
+    ∙ ap (λ l. drop answerRoom (drop q l)) (drop-at P (Q ++ (zs ++ Z)) p hp) ∙ ap (drop answerRoom) (drop-at Q (zs ++ Z) q hq)
+    ∙ drop-at zs Z answerRoom hz in
+    let whole : first ++ take (p + q - p) (drop p b) ++ drop (p + q + answerRoom) b ≡ first ++ (Q ++ Z) =
+    rw (middle, last) (append-assoc first Q Z) in
+    let before : take p (first ++ (Q ++ Z)) ≡ P =
+    take-append-le p first (Q ++ Z) (omega (arith, long)) ∙ take-take p (p + answerRoom) b (omega arith)
+    ∙ take-at P (Q ++ (zs ++ Z)) p hp in
+    let behind : drop answerRoom (drop p (first ++ (Q ++ Z))) ≡ Q ++ Z =
+    drop-drop answerRoom p (first ++ (Q ++ Z)) ∙ drop-at first (Q ++ Z) (p + answerRoom) long in
     ap (λ (l : List ℕ). putMid p answerRoom l X) whole ∙ rw (before, behind) refl
   where
     back : (a b : ℕ) → a + b - a ≡ b
@@ -90,10 +103,14 @@ put-moved p q P Q zs Z X hp hq hz =
 -- a slot of its own, before some and after others
 put-between : (m : ℕ) (pre post : List (List ℕ)) (x : List ℕ) →
     let n = length pre + (length post + suc m) in
-    putMid (length pre * answerRoom) answerRoom (movedUp (length pre * answerRoom) (length pre * answerRoom + length post * answerRoom) (slotsIn n (pre ++ post))) (slotOf x) ≡ slotsIn n (pre ++ (x ∷ post))
+    putMid (length pre * answerRoom) answerRoom
+    (movedUp (length pre * answerRoom) (length pre * answerRoom + length post * answerRoom) (slotsIn n (pre ++ post))) (slotOf x)
+    ≡ slotsIn n (pre ++ (x ∷ post))
 put-between m pre post x =
-    ap (λ (l : List ℕ). putMid (length pre * answerRoom) answerRoom (movedUp (length pre * answerRoom) (length pre * answerRoom + length post * answerRoom) l) (slotOf x)) start
-    ∙ put-moved (length pre * answerRoom) (length post * answerRoom) (slotsBytes pre) (slotsBytes post) (zeros answerRoom) (zeros (m * answerRoom)) (slotOf x) (slots-size pre) (slots-size post) (length-replicate {A = ℕ} answerRoom 0)
+    ap (λ (l : List ℕ). putMid (length pre * answerRoom) answerRoom
+    (movedUp (length pre * answerRoom) (length pre * answerRoom + length post * answerRoom) l) (slotOf x)) start
+    ∙ put-moved (length pre * answerRoom) (length post * answerRoom) (slotsBytes pre) (slotsBytes post) (zeros answerRoom)
+    (zeros (m * answerRoom)) (slotOf x) (slots-size pre) (slots-size post) (length-replicate {A = ℕ} answerRoom 0)
     ∙ sym end
   where
     tail : (k : ℕ) → slotsIn (length post + k) post ≡ slotsBytes post ++ zeros (k * answerRoom)
@@ -102,14 +119,20 @@ put-between m pre post x =
     zeros-more : zeros (suc m * answerRoom) ≡ zeros answerRoom ++ zeros (m * answerRoom)
     zeros-more = ap zeros (one-more m) ∙ sym (replicate-append-replicate {A = ℕ} answerRoom (m * answerRoom) 0)
 
-    start : slotsIn (length pre + (length post + suc m)) (pre ++ post) ≡ slotsBytes pre ++ (slotsBytes post ++ (zeros answerRoom ++ zeros (m * answerRoom)))
-    start = slots-append (length post + suc m) pre post ∙ ap (λ l. slotsBytes pre ++ l) (tail (suc m) ∙ ap (λ l. slotsBytes post ++ l) zeros-more)
+    start : slotsIn (length pre + (length post + suc m)) (pre ++ post)
+        ≡ slotsBytes pre ++ (slotsBytes post ++ (zeros answerRoom ++ zeros (m * answerRoom)))
+    start =
+        slots-append (length post + suc m) pre post
+        ∙ ap (λ l. slotsBytes pre ++ l) (tail (suc m) ∙ ap (λ l. slotsBytes post ++ l) zeros-more)
 
     shift : (a b : ℕ) → a + suc b ≡ suc (a + b)
     shift a b = omega arith
 
-    end : slotsIn (length pre + (length post + suc m)) (pre ++ (x ∷ post)) ≡ slotsBytes pre ++ (slotOf x ++ (slotsBytes post ++ zeros (m * answerRoom)))
-    end = ap (λ (k : ℕ). slotsIn (length pre + k) (pre ++ (x ∷ post))) (shift (length post) m) ∙ around (length post + m) pre post x ∙ ap (λ l. slotsBytes pre ++ (slotOf x ++ l)) (tail m)
+    end : slotsIn (length pre + (length post + suc m)) (pre ++ (x ∷ post))
+        ≡ slotsBytes pre ++ (slotOf x ++ (slotsBytes post ++ zeros (m * answerRoom)))
+    end =
+        ap (λ (k : ℕ). slotsIn (length pre + k) (pre ++ (x ∷ post))) (shift (length post) m) ∙ around (length post + m) pre post x
+        ∙ ap (λ l. slotsBytes pre ++ (slotOf x ++ l)) (tail m)
 
 -- ---- where a record goes among what is held
 
@@ -131,13 +154,15 @@ settled : List (List ℕ) → List ℕ → List (List ℕ)
 settled [] new = new ∷ []
 settled (c ∷ cs) new = cond (eqb (jobOf c) (jobOf new)) (joined c new ∷ cs) (new ∷ c ∷ cs)
 
-placed-settled : (cs : List (List ℕ)) (new : List ℕ) → placed cs new ≡ take (below cs (jobOf new)) cs ++ settled (drop (below cs (jobOf new)) cs) new
+placed-settled : (cs : List (List ℕ)) (new : List ℕ)
+    → placed cs new ≡ take (below cs (jobOf new)) cs ++ settled (drop (below cs (jobOf new)) cs) new
 unfolding placed below settled
 placed-settled [] new = refl
 placed-settled (c ∷ cs) new = by (placed-settled cs new) (ltb (jobOf c) (jobOf new))
   where
     by : placed cs new ≡ take (below cs (jobOf new)) cs ++ settled (drop (below cs (jobOf new)) cs) new → (t : Bool) →
-        cond t (c ∷ placed cs new) (cond (eqb (jobOf c) (jobOf new)) (joined c new ∷ cs) (new ∷ c ∷ cs)) ≡ take (cond t (suc (below cs (jobOf new))) 0) (c ∷ cs) ++ settled (drop (cond t (suc (below cs (jobOf new))) 0) (c ∷ cs)) new
+        cond t (c ∷ placed cs new) (cond (eqb (jobOf c) (jobOf new)) (joined c new ∷ cs) (new ∷ c ∷ cs))
+        ≡ take (cond t (suc (below cs (jobOf new))) 0) (c ∷ cs) ++ settled (drop (cond t (suc (below cs (jobOf new))) 0) (c ∷ cs)) new
     by e true = ap (λ l. c ∷ l) e
     by e false = refl
 
@@ -181,7 +206,8 @@ slots-below (suc n) job (c ∷ cs) h =
 nothing : {c : List ℕ} {post : List (List ℕ)} → _≡_ {A = List (List ℕ)} [] (c ∷ post) → ⊥
 nothing f = let z : _≡_ {A = ℕ} 0 1 = cc in omega arith
 
-rising-held : (above k : ℕ) (cs : List (List ℕ)) {c : List ℕ} {post : List (List ℕ)} → HeldRising above cs → drop k cs ≡ c ∷ post → isHeld c ≡ true
+rising-held : (above k : ℕ) (cs : List (List ℕ)) {c : List ℕ} {post : List (List ℕ)} → HeldRising above cs → drop k cs ≡ c ∷ post
+    → isHeld c ≡ true
 rising-held above zero [] r e = absurd (nothing e)
 rising-held above zero (d ∷ ds) {c} (next low held r) e = let same : d ≡ c = cc in rw same at held
 rising-held above (suc k) [] r e = absurd (nothing e)
@@ -218,7 +244,9 @@ module _ (b new : List ℕ) (board : isBoard b ≡ true) where
   filled-is = ap (slotsBeforeFree SLOTS) bytes ∙ slots-named SLOTS 0 cs (board-held b board .0) few
 
   place-is : slotsBelow (slotsBeforeFree SLOTS b) (jobOf new) b ≡ place
-  place-is = ap (λ (n : ℕ). slotsBelow n (jobOf new) b) filled-is ∙ ap (slotsBelow (length cs) (jobOf new)) bytes ∙ slots-below SLOTS (jobOf new) cs few
+  place-is =
+      ap (λ (n : ℕ). slotsBelow n (jobOf new) b) filled-is ∙ ap (slotsBelow (length cs) (jobOf new)) bytes
+      ∙ slots-below SLOTS (jobOf new) cs few
 
   pre-size : length pre ≡ place
   pre-size = length-take-le place cs (below-le cs (jobOf new))
@@ -268,7 +296,8 @@ module _ (b new : List ℕ) (board : isBoard b ≡ true) where
 
     pub record JoinsHere : Type 0 where
       pub ready : midOf (i * answerRoom) answerRoom b ≡ slotOf (contentOf (midOf (i * answerRoom) answerRoom b))
-      pub done : (s : List ℕ) → s ≡ slotOf (joined (contentOf (midOf (i * answerRoom) answerRoom b)) new) → Gives b new Taken (putMid (i * answerRoom) answerRoom b s)
+      pub done : (s : List ℕ) → s ≡ slotOf (joined (contentOf (midOf (i * answerRoom) answerRoom b)) new)
+          → Gives b new Taken (putMid (i * answerRoom) answerRoom b s)
 
     enters-slot : i < slotsBeforeFree SLOTS b → jobOf (drop (i * answerRoom) b) ≡ jobOf new → JoinsHere
     unfolding settled
@@ -278,11 +307,14 @@ module _ (b new : List ℕ) (board : isBoard b ≡ true) where
         by [] e = absurd (omega (arith, length-drop place cs, ap length e, found, low, filled-is))
         by (c ∷ post) e =
             let held : isHeld c ≡ true = rising-held 0 place cs (board-held b board .0) e in
-            let slot : midOf (i * answerRoom) answerRoom b ≡ slotOf c = ap (λ (n : ℕ). midOf (n * answerRoom) answerRoom b) found ∙ here c post e in
+            let slot : midOf (i * answerRoom) answerRoom b ≡ slotOf c =
+            ap (λ (n : ℕ). midOf (n * answerRoom) answerRoom b) found ∙ here c post e in
             let content : contentOf (midOf (i * answerRoom) answerRoom b) ≡ c = ap contentOf slot ∙ content-back c held in
             let its : jobOf c ≡ jobOf new = sym (job-here c post e) ∙ ap (λ (n : ℕ). jobOf (drop (n * answerRoom) b)) (sym found) ∙ same in
-            let whole : placed cs new ≡ pre ++ (joined c new ∷ post) = placed-settled cs new ∙ rw (e, eq-eqb (jobOf c) (jobOf new) its) refl in
-            let size : length (pre ++ (joined c new ∷ post)) ≤ SLOTS = omega (arith, length-append pre (joined c new ∷ post), pre-size, after c post e, few) in
+            let whole : placed cs new ≡ pre ++ (joined c new ∷ post) =
+            placed-settled cs new ∙ rw (e, eq-eqb (jobOf c) (jobOf new) its) refl in
+            let size : length (pre ++ (joined c new ∷ post)) ≤ SLOTS =
+            omega (arith, length-append pre (joined c new ∷ post), pre-size, after c post e, few) in
             let go = taken (pre ++ (joined c new ∷ post)) whole size in
             record {
               ready = slot ∙ ap slotOf (sym content);
@@ -318,23 +350,31 @@ module _ (b new : List ℕ) (board : isBoard b ≡ true) where
 
     enters-none : NotThere b new i → slotsBeforeFree SLOTS b ≡ SLOTS → Gives b new (Refused 3) b
     unfolding placedOn
-    enters-none h full = rw (whole h, lt-ltb SLOTS (length (pre ++ (new ∷ drop place cs))) (omega (arith, one-held-more, filled-is, full))) (refl, refl)
+    enters-none h full =
+        rw (whole h, lt-ltb SLOTS (length (pre ++ (new ∷ drop place cs))) (omega (arith, one-held-more, filled-is, full))) (refl, refl)
 
-    enters-new : NotThere b new i → slotsBeforeFree SLOTS b < SLOTS → Gives b new Taken (putMid (i * answerRoom) answerRoom (movedUp (i * answerRoom) (slotsBeforeFree SLOTS b * answerRoom) b) (slotOf new))
+    enters-new : NotThere b new i → slotsBeforeFree SLOTS b < SLOTS
+        → Gives b new Taken (putMid (i * answerRoom) answerRoom (movedUp (i * answerRoom) (slotsBeforeFree SLOTS b * answerRoom) b)
+        (slotOf new))
     unfolding boardOf slotsIn
     enters-new h room =
         let post = drop place cs in
         let m = SLOTS - suc (length cs) in
-        let total : SLOTS ≡ length pre + (length post + suc m) = omega (arith, pre-size, post-size, below-le cs (jobOf new), filled-is, room) in
+        let total : SLOTS ≡ length pre + (length post + suc m) =
+        omega (arith, pre-size, post-size, below-le cs (jobOf new), filled-is, room) in
         let from : i * answerRoom ≡ length pre * answerRoom = ap (λ (n : ℕ). n * answerRoom) (found ∙ sym pre-size) in
-        let sum : slotsBeforeFree SLOTS b ≡ length pre + length post = omega (arith, pre-size, post-size, below-le cs (jobOf new), filled-is) in
-        let to : slotsBeforeFree SLOTS b * answerRoom ≡ length pre * answerRoom + length post * answerRoom = ap (λ (n : ℕ). n * answerRoom) sum ∙ times (length pre) (length post) in
-        let shown : b ≡ slotsIn (length pre + (length post + suc m)) (pre ++ post) = bytes ∙ ap (slotsIn SLOTS) (sym (take-append-drop place cs)) ∙ ap (λ (n : ℕ). slotsIn n (pre ++ post)) total in
+        let sum : slotsBeforeFree SLOTS b ≡ length pre + length post =
+        omega (arith, pre-size, post-size, below-le cs (jobOf new), filled-is) in
+        let to : slotsBeforeFree SLOTS b * answerRoom ≡ length pre * answerRoom + length post * answerRoom =
+        ap (λ (n : ℕ). n * answerRoom) sum ∙ times (length pre) (length post) in
+        let shown : b ≡ slotsIn (length pre + (length post + suc m)) (pre ++ post) =
+        bytes ∙ ap (slotsIn SLOTS) (sym (take-append-drop place cs)) ∙ ap (λ (n : ℕ). slotsIn n (pre ++ post)) total in
         let go = taken (pre ++ (new ∷ post)) (whole h) (omega (arith, one-held-more, filled-is, room)) in (
           go .0,
           ap (λ (n : ℕ). putMid n answerRoom (movedUp n (slotsBeforeFree SLOTS b * answerRoom) b) (slotOf new)) from
               ∙ ap (λ (n : ℕ). putMid (length pre * answerRoom) answerRoom (movedUp (length pre * answerRoom) n b) (slotOf new)) to
-              ∙ ap (λ (l : List ℕ). putMid (length pre * answerRoom) answerRoom (movedUp (length pre * answerRoom) (length pre * answerRoom + length post * answerRoom) l) (slotOf new)) shown
+              ∙ ap (λ (l : List ℕ). putMid (length pre * answerRoom) answerRoom
+              (movedUp (length pre * answerRoom) (length pre * answerRoom + length post * answerRoom) l) (slotOf new)) shown
               ∙ put-between m pre post new
               ∙ ap (λ (n : ℕ). slotsIn n (pre ++ (new ∷ post))) (sym total)
               ∙ go .1,

@@ -1,4 +1,5 @@
--- What holds of the step that every call gives, whatever the state: no more bytes are taken than the piece has (`taken-within`), and a finished question has room (`question-fits`).
+-- What holds of the step that every call gives, whatever the state: no more bytes are taken than the piece has
+-- (`taken-within`), and a finished question has room (`question-fits`).
 use mathlib.Core.Path.{_≡_, refl}
 use mathlib.Core.List.{List, _++_}
 use Prim.Native.Nat.{ℕ, _+_, _-_, _≤_}
@@ -34,7 +35,13 @@ question-fits r piece s is = rw is (by (cameOf r piece) refl)
     by NeedsReset e = omega arith
 
 -- what is taken of the rest of a piece stays within the piece
-pub rest-within : (r : Reader) (piece : List ℕ) (at : ℕ) (s : Step) → at ≤ length piece → s ≡ readOf r (take (length piece - at) (drop at piece)) → at + s .taken ≤ length piece
+pub rest-within : (r : Reader) (piece : List ℕ) (at : ℕ) (s : Step) → at ≤ length piece
+    → s ≡ readOf r (take (length piece - at) (drop at piece)) → at + s .taken ≤ length piece
 rest-within r piece at s h is =
     let rest = take (length piece - at) (drop at piece) in
-    omega (arith, taken-within r rest s is, length-take (length piece - at) (drop at piece), min-le-left (length piece - at) (length (drop at piece)))
+    omega (
+      arith,
+      taken-within r rest s is,
+      length-take (length piece - at) (drop at piece),
+      min-le-left (length piece - at) (length (drop at piece)),
+    )

@@ -19,7 +19,8 @@ unfolding fitting isAmong
 among-fits n [] f e = apart (cc)
 among-fits n (m ∷ ms) f e = by (leb (LENGTH .width + m) questionRoom) refl f (eqb n m) refl e (λ g. among-fits n ms g)
   where
-    by : (l : Bool) → leb (LENGTH .width + m) questionRoom ≡ l → (l && fitting ms) ≡ true → (t : Bool) → eqb n m ≡ t → (t || isAmong n ms) ≡ true
+    by : (l : Bool) → leb (LENGTH .width + m) questionRoom ≡ l → (l && fitting ms) ≡ true → (t : Bool) → eqb n m ≡ t
+        → (t || isAmong n ms) ≡ true
         → (fitting ms ≡ true → isAmong n ms ≡ true → LENGTH .width + n ≤ questionRoom) → LENGTH .width + n ≤ questionRoom
     by false l f t g e later = apart (cc)
     by true l f true g e later = omega (arith, leb-true, eqb-true)

@@ -1,4 +1,5 @@
--- What is judged is what the bytes tell, and the other way round (`verdict`, `judged-by`): the later lemmas go by the four cases of `Verdict`. What is not finished has room (`part-fits`), and so has a question (`whole-fits`).
+-- What is judged is what the bytes tell, and the other way round (`verdict`, `judged-by`): the later lemmas go by the
+-- four cases of `Verdict`. What is not finished has room (`part-fits`), and so has a question (`whole-fits`).
 use mathlib.Core.Path.{_≡_, refl, ap, _∙_}
 use mathlib.Core.Bool.{Bool, true, false, not, cond, true≢false}
 use mathlib.Core.List.{List, _++_}
@@ -19,7 +20,8 @@ verdict-of : (s : List ℕ) → Verdict s (judged s)
 unfolding judged
 verdict-of s = by (ltb (length s) (LENGTH .width)) refl (isQuestionLength (valueOf LENGTH s)) refl (ltb (length s) (sizeOf s)) refl
   where
-    by : (a : Bool) → ltb (length s) (LENGTH .width) ≡ a → (b : Bool) → isQuestionLength (valueOf LENGTH s) ≡ b → (c : Bool) → ltb (length s) (sizeOf s) ≡ c →
+    by : (a : Bool) → ltb (length s) (LENGTH .width) ≡ a → (b : Bool) → isQuestionLength (valueOf LENGTH s) ≡ b → (c : Bool)
+        → ltb (length s) (sizeOf s) ≡ c →
         Verdict s (cond a Nothing (cond (not b) BadLength (cond c Nothing (Question (sizeOf s)))))
     by true e b f c g = few (omega (arith, ltb-true))
     by false e false f c g = bad (omega (arith, ltb-false)) f
@@ -54,7 +56,8 @@ needsReset (Question size) = false
 needsReset Nothing = false
 needsReset BadLength = false
 
-pub came-verdict : (r : Reader) (piece : List ℕ) {came : Came} → cameOf r piece ≡ came → needsReset came ≡ false → Verdict (keptOf r ++ piece) came
+pub came-verdict : (r : Reader) (piece : List ℕ) {came : Came} → cameOf r piece ≡ came → needsReset came ≡ false
+    → Verdict (keptOf r ++ piece) came
 unfolding cameOf
 came-verdict r piece {came} e f = verdict (by (r .refused) e)
   where

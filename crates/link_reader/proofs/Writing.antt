@@ -1,4 +1,5 @@
--- Bytes of a piece pasted after the kept ones are the bytes held, up to a size, written at the start of the room (`pasted`). So are the steps that keep a piece (`keeps`) and that finish a question (`finishes`).
+-- Bytes of a piece pasted after the kept ones are the bytes held, up to a size, written at the start of the room
+-- (`pasted`). So are the steps that keep a piece (`keeps`) and that finish a question (`finishes`).
 use mathlib.Core.Path.{_≡_, refl, sym, ap, _∙_}
 use mathlib.Core.Bool.{Bool, true, false}
 use mathlib.Core.List.{List, _++_}
@@ -29,8 +30,10 @@ module _ (room piece : List ℕ) (n size : ℕ) (within : n ≤ length room) (fi
   more : n ≤ size → size ≤ n + length piece → paste room n piece (size - n) ≡ written room (take size (kept ++ piece))
   more h k =
       let e : size ≡ length kept + (size - n) = omega (arith, long) in
-      let held : take size (kept ++ piece) ≡ kept ++ take (size - n) piece = ap (λ (j : ℕ). take j (kept ++ piece)) e ∙ take-append-add kept piece (size - n) in
-      let l : length (kept ++ take (size - n) piece) ≡ size = length-append kept (take (size - n) piece) ∙ omega (arith, long, length-take-le (size - n) piece (omega arith)) in
+      let held : take size (kept ++ piece) ≡ kept ++ take (size - n) piece =
+      ap (λ (j : ℕ). take j (kept ++ piece)) e ∙ take-append-add kept piece (size - n) in
+      let l : length (kept ++ take (size - n) piece) ≡ size =
+      length-append kept (take (size - n) piece) ∙ omega (arith, long, length-take-le (size - n) piece (omega arith)) in
       let s : n + (size - n) ≡ size = omega arith in
       ap (λ (j : ℕ). kept ++ take (size - n) piece ++ drop j room) (s ∙ sym l)
       ∙ sym (ap (written room) held ∙ laid room (kept ++ take (size - n) piece) (omega (arith, l)))
@@ -39,7 +42,8 @@ module _ (room piece : List ℕ) (n size : ℕ) (within : n ≤ length room) (fi
   fewer : size ≤ n → paste room n piece (size - n) ≡ written room (take size (kept ++ piece))
   fewer h =
       let z : size - n ≡ 0 = omega arith in
-      let held : take size (kept ++ piece) ≡ take size room = take-append-le size kept piece (omega (arith, long)) ∙ take-take size n room h in
+      let held : take size (kept ++ piece) ≡ take size room =
+      take-append-le size kept piece (omega (arith, long)) ∙ take-take size n room h in
       let l : length (take size room) ≡ size = length-take-le size room fits in
       ap (paste room n piece) z ∙ sym (paste-zero room n piece)
       ∙ sym
@@ -68,10 +72,16 @@ module _ (r : Reader) (n : ℕ) (long : length (r .bytes) ≡ questionRoom) (cut
 
   module _ (piece bytes : List ℕ) where
     pub keeps : length (keptOf r) + length piece ≤ questionRoom → bytes ≡ paste (r .bytes) n piece (length piece) →
-        record { next = record { bytes = bytes; count = n + length piece; refused = false }; taken = length piece; came = Nothing; question = blank } ≡ stepBy Nothing r piece
+        record {
+          next = record { bytes = bytes; count = n + length piece; refused = false };
+          taken = length piece;
+          came = Nothing;
+          question = blank;
+        } ≡ stepBy Nothing r piece
     unfolding stepBy
     keeps h e =
-        let all : length (keptOf r ++ piece) ≡ n + length piece = length-append (keptOf r) piece ∙ ap (λ (k : ℕ). k + length piece) cut-count in
+        let all : length (keptOf r ++ piece) ≡ n + length piece =
+        length-append (keptOf r) piece ∙ ap (λ (k : ℕ). k + length piece) cut-count in
         let d : n + length piece - n ≡ length piece = omega arith in
         let b : bytes ≡ written (r .bytes) (keptOf r ++ piece) =
         e
@@ -81,7 +91,8 @@ module _ (r : Reader) (n : ℕ) (long : length (r .bytes) ≡ questionRoom) (cut
         ∙ ap (written (r .bytes)) (take-all (n + length piece) (keptOf r ++ piece) (omega (arith, all))) in
         cc (b, all)
 
-    pub finishes : (next : Reader) (size taken : ℕ) → size ≤ questionRoom → size ≤ length (keptOf r) + length piece → next ≡ asNew → taken ≡ size - n → bytes ≡ paste (r .bytes) n piece taken →
+    pub finishes : (next : Reader) (size taken : ℕ) → size ≤ questionRoom → size ≤ length (keptOf r) + length piece → next ≡ asNew
+        → taken ≡ size - n → bytes ≡ paste (r .bytes) n piece taken →
         record { next = next; taken = taken; came = Question size; question = bytes } ≡ stepBy (Question size) r piece
     unfolding stepBy
     finishes next size taken h k f u e =

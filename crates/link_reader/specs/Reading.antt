@@ -66,7 +66,8 @@ unfoldable pub cameOf : Reader → List ℕ → Came
 cameOf r piece = cond (r .refused) NeedsReset (judged (keptOf r ++ piece))
 
 -- the call: the next state, how many bytes it took, what came, and the bytes of a finished question.
--- A question takes the piece up to its last byte and leaves a new reader; nothing yet takes the whole piece and keeps it; a bad length takes the whole piece and keeps nothing; B4 takes no bytes and leaves the state as it was
+-- A question takes the piece up to its last byte and leaves a new reader; nothing yet takes the whole piece and keeps
+-- it; a bad length takes the whole piece and keeps nothing; B4 takes no bytes and leaves the state as it was
 unfoldable pub stepBy : Came → Reader → List ℕ → Step
 stepBy (Question size) r piece =
     record {

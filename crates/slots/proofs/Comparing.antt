@@ -1,4 +1,5 @@
--- What one byte more adds to a comparison with zeros (`zero-next`) and with other bytes (`same-next`). Bytes of different length are not the same (`other-length`).
+-- What one byte more adds to a comparison with zeros (`zero-next`) and with other bytes (`same-next`). Bytes of
+-- different length are not the same (`other-length`).
 use Prim.Native.Nat.{ℕ, suc, _+_, _<_}
 use mathlib.Core.Path.{_≡_, refl, ap}
 use mathlib.Core.Bool.{Bool, false, _&&_, and-assoc, and-false}
@@ -9,7 +10,8 @@ use lib.ListN.{length, getD, drop}
 use lib.Seq.{drop-cons}
 use Rattle.slots.specs.Slots.{isZero, sameBytes}
 
-pub zero-next : (found : Bool) (s : List ℕ) (i : ℕ) → i < length s → (found && eqb (getD s i 0) 0) && isZero (drop (i + 1) s) ≡ found && isZero (drop i s)
+pub zero-next : (found : Bool) (s : List ℕ) (i : ℕ) → i < length s
+    → (found && eqb (getD s i 0) 0) && isZero (drop (i + 1) s) ≡ found && isZero (drop i s)
 unfolding isZero
 zero-next found s i h = rw (add-one, drop-cons s i 0) (and-assoc found (eqb (getD s i 0) 0) (isZero (drop (suc i) s)))
 
@@ -17,7 +19,8 @@ pub same-next : (found : Bool) (a b : List ℕ) (i : ℕ) → i < length a → i
     → (found && eqb (getD a i 0) (getD b i 0)) && sameBytes (drop (i + 1) a) (drop (i + 1) b) ≡ found && sameBytes (drop i a) (drop i b)
 unfolding sameBytes
 same-next found a b i h k =
-    rw (add-one, drop-cons a i 0, drop-cons b i 0) (and-assoc found (eqb (getD a i 0) (getD b i 0)) (sameBytes (drop (suc i) a) (drop (suc i) b)))
+    rw (add-one, drop-cons a i 0, drop-cons b i 0)
+    (and-assoc found (eqb (getD a i 0) (getD b i 0)) (sameBytes (drop (suc i) a) (drop (suc i) b)))
 
 pub other-length : (a b : List ℕ) → (length a ≡ length b → ⊥) → sameBytes a b ≡ false
 unfolding sameBytes

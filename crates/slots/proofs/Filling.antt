@@ -10,7 +10,8 @@ use Rattle.slots.specs.Slots.{padded}
 use Rattle.slots.proofs.Padding.{padded-length, padded-at}
 
 -- a store of the next byte carries the loop's invariant on
-pub fill-next : (n : ℕ) (bytes slot : List ℕ) (i : ℕ) → i < n → length slot ≡ n → take i slot ≡ take i (padded n bytes) → take (i + 1) (set slot i (getD bytes i 0)) ≡ take (i + 1) (padded n bytes)
+pub fill-next : (n : ℕ) (bytes slot : List ℕ) (i : ℕ) → i < n → length slot ≡ n → take i slot ≡ take i (padded n bytes)
+    → take (i + 1) (set slot i (getD bytes i 0)) ≡ take (i + 1) (padded n bytes)
 fill-next n bytes slot i h l e =
     let p = padded n bytes in
     rw add-one

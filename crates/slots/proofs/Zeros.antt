@@ -1,4 +1,5 @@
--- What the tests on bytes tell: all zeros (`zero-is`) and the same bytes (`same-is`), and that the tests hold of such bytes. `both` parts a test of two.
+-- What the tests on bytes tell: all zeros (`zero-is`) and the same bytes (`same-is`), and that the tests hold of such
+-- bytes. `both` parts a test of two.
 use mathlib.Core.Path.{_≡_, refl, sym, ap, _∙_}
 use mathlib.Core.Bool.{Bool, true, false, _&&_, and-assoc, true≢false}
 use mathlib.Core.List.{List, [], _∷_, _++_}

@@ -16,7 +16,10 @@ write-all-requires : tie.Need-write-all-requires
 write-all-requires c κs = search needs
 
 slice-aggregate-hash-of : tie.Need-slice-aggregate-hash-of
-slice-aggregate-hash-of c = sym (length-take-le (c .before .before .before .at-most .result) (c .before .before .before .before .before .args .room .now) (omega (arith, c .before .before .before .at-most .ensures .0)))
+slice-aggregate-hash-of c =
+    let cut = c .before .before .before in
+    let room = cut .before .before .args .room .now in
+    sym (length-take-le (cut .at-most .result) room (omega (arith, cut .at-most .ensures .0)))
 
 hash-of-requires : tie.Need-hash-of-requires
 hash-of-requires c κs = search needs

@@ -15,7 +15,10 @@ slice-relend-prefix-read-full : tie.Need-slice-relend-prefix-read-full
 slice-relend-prefix-read-full c = search needs
 
 slice-aggregate-read-full : tie.Need-slice-aggregate-read-full
-slice-aggregate-read-full c = sym (length-take-le (c .before .at-most .result) (c .before .before .before .before .args .bytes .now) (omega (arith, c .before .at-most .ensures .0)))
+slice-aggregate-read-full c =
+    let cut = c .before in
+    let bytes = cut .before .before .before .args .bytes .now in
+    sym (length-take-le (cut .at-most .result) bytes (omega (arith, cut .at-most .ensures .0)))
 
 read-full-requires : tie.Need-read-full-requires
 read-full-requires c κs = search needs
@@ -27,7 +30,11 @@ slice-relend-prefix-post : tie.Need-slice-relend-prefix-post
 slice-relend-prefix-post c = search needs
 
 slice-aggregate-post : tie.Need-slice-aggregate-post
-slice-aggregate-post c = sym (length-take-le (c .before .at-most2 .result) (c .before .before .before .before .before .before .before .before .before .args .room .now) (omega (arith, c .before .at-most2 .ensures .0)))
+slice-aggregate-post c =
+    let lent = c .before in
+    let read = lent .before .before .before in
+    let room = read .before .before .before .before .before .args .room .now in
+    sym (length-take-le (lent .at-most2 .result) room (omega (arith, lent .at-most2 .ensures .0)))
 
 slice-reshare-prefix-post : tie.Need-slice-reshare-prefix-post
 slice-reshare-prefix-post c = search needs
@@ -39,7 +46,13 @@ slice-aggregate-post-2 c =
     let b = n .before .before .before .args .bytes .now in
     let cut = n .at-most .result in
     let last = r .read-full .last .1 .0 in
-    sym (length-take-le cut (last ++ drop cut b) (omega (arith, length-append last (drop cut b), r .read-full .kept .1 .0, length-take-le cut b (omega (arith, n .at-most .ensures .0)))))
+    sym (length-take-le cut (last ++ drop cut b)
+    (omega (
+      arith,
+      length-append last (drop cut b),
+      r .read-full .kept .1 .0,
+      length-take-le cut b (omega (arith, n .at-most .ensures .0)),
+    )))
 
 post-requires : tie.Need-post-requires
 post-requires c κs = search needs

@@ -1,4 +1,5 @@
--- `appended` meets its contract. The loop's invariant: the first i bytes of the piece stand in their place. The measure is how many are left.
+-- `appended` meets its contract. The loop's invariant: the first i bytes of the piece stand in their place. The measure
+-- is how many are left.
 use Prim.Native.Nat.{_+_, _-_, _≤_}
 use mathlib.Core.Path.{_≡_, refl, ap, _∙_}
 use native.Mathlib.Numerals.{add-one}

@@ -35,7 +35,8 @@ returns c =
     let cut = c .before .before .before .before .at-most in
     let taken = c .before .before .missing in
     let appended = c .before .appended in
-    finishes (a .reader) (cut .result) long (cut .ensures) (a .piece .now) (appended .result) (c .new .result) (a .size) (taken .result) (s .pre .0) (s .pre .1) (c .new .ensures) (taken .ensures) (appended .ensures)
+    finishes (a .reader) (cut .result) long (cut .ensures) (a .piece .now) (appended .result) (c .new .result) (a .size) (taken .result)
+    (s .pre .0) (s .pre .1) (c .new .ensures) (taken .ensures) (appended .ensures)
 
 pub finished-spec : {M : Type 1} → statement M
 finished-spec =

@@ -29,7 +29,8 @@ returns c =
     let s = c .before .before .before .before in
     let a = s .args in
     let long : length (a .reader .bytes) ≡ questionRoom = search (needs, s .good) in
-    keeps (a .reader) (c .before .before .at-most .result) long (c .before .before .at-most .ensures) (a .piece .now) (c .appended .result) (s .pre) (c .appended .ensures)
+    keeps (a .reader) (c .before .before .at-most .result) long (c .before .before .at-most .ensures) (a .piece .now) (c .appended .result)
+    (s .pre) (c .appended .ensures)
 
 pub kept-spec : {M : Type 1} → statement M
 kept-spec = tie.close (tie.spec at-most-requires appended-requires add-t7 returns)

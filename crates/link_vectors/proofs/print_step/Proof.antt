@@ -32,7 +32,8 @@ print-first-requires : tie.Need-print-first-requires
 print-first-requires c κs =
     let s = c .before .before .before .before .before .before .before .before .before in
     let room : length (s .args .step .question) ≡ questionRoom = search (needs, s .good) in
-    omega (arith, subst (λ (k : Came). sizeGiven k ≤ questionRoom) (c .before .before .before .before .before .before .came .given .1) (s .pre))
+    let told = c .before .before .before .before .before .before .came in
+    omega (arith, subst (λ (k : Came). sizeGiven k ≤ questionRoom) (told .given .1) (s .pre))
 
 enum-told : tie.Need-enum-told
 enum-told c = search needs

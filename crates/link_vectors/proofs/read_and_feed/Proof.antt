@@ -15,7 +15,10 @@ slice-relend-prefix-read-full : tie.Need-slice-relend-prefix-read-full
 slice-relend-prefix-read-full c = search needs
 
 slice-aggregate-read-full : tie.Need-slice-aggregate-read-full
-slice-aggregate-read-full c = sym (length-take-le (c .before .at-most .result) (c .before .before .before .args .bytes .now) (c .before .at-most .ensures))
+slice-aggregate-read-full c =
+    let cut = c .before in
+    let bytes = cut .before .before .args .bytes .now in
+    sym (length-take-le (cut .at-most .result) bytes (cut .at-most .ensures))
 
 read-full-requires : tie.Need-read-full-requires
 read-full-requires c κs = search needs
@@ -30,7 +33,8 @@ slice-aggregate-feed c =
     let b = n .before .before .args .bytes .now in
     let cut = n .at-most .result in
     let last = r .read-full .last .1 .0 in
-    sym (length-take-le cut (last ++ drop cut b) (omega (arith, length-append last (drop cut b), r .read-full .kept .1 .0, length-take-le cut b (n .at-most .ensures))))
+    sym (length-take-le cut (last ++ drop cut b)
+    (omega (arith, length-append last (drop cut b), r .read-full .kept .1 .0, length-take-le cut b (n .at-most .ensures))))
 
 feed-requires : tie.Need-feed-requires
 feed-requires c κs = search needs

@@ -39,7 +39,8 @@ loop-again c =
     let args = c .before .before .before .before .before .args in (
       omega arith,
       simp length-set (l .inv .1),
-      rw (c .byte-at .ensures) (fill-next (length (args .slot .now)) (args .bytes .now) (l .slot) (l .i) (omega arith) (l .inv .1) (l .inv .2)),
+      rw (c .byte-at .ensures)
+          (fill-next (length (args .slot .now)) (args .bytes .now) (l .slot) (l .i) (omega arith) (l .inv .1) (l .inv .2)),
     )
 
 same-length : tie.Need-same-length Inv-loop μ-loop
@@ -50,7 +51,8 @@ returns c =
     let l = c .before .loop in
     let args = c .before .before .before .before .args in
     let p = padded (length (args .slot .now)) (args .bytes .now) in
-    sym (take-all (l .i) (l .slot) (omega arith)) ∙ l .inv .2 ∙ take-all (l .i) p (omega (arith, padded-length (length (args .slot .now)) (args .bytes .now)))
+    sym (take-all (l .i) (l .slot) (omega arith)) ∙ l .inv .2
+    ∙ take-all (l .i) p (omega (arith, padded-length (length (args .slot .now)) (args .bytes .now)))
 
 pub fill-spec : {M : Type 1} → statement M
 fill-spec =

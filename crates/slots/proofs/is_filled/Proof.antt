@@ -18,7 +18,8 @@ content-size-requires c κs = search needs
 slice-aggregate-is-held : tie.Need-slice-aggregate-is-held
 slice-aggregate-is-held c =
     let s = c .before .before .before .args .slot .now in
-    sym (length-take-le (c .before .content-size .result) s (omega (arith, c .before .content-size .ensures, min-le-right (sizeOf s) (length s))))
+    sym (length-take-le (c .before .content-size .result) s
+    (omega (arith, c .before .content-size .ensures, min-le-right (sizeOf s) (length s))))
 
 is-held-requires : tie.Need-is-held-requires
 is-held-requires c κs = search needs
@@ -38,16 +39,20 @@ is-zero-requires c κs = search needs
 returns : tie.Need-returns
 unfolding isFilled contentOf
 returns c =
-    let s = c .before .before .before .before .before .before .before .args .slot .now in
-    let size = c .before .before .before .before .before .content-size in
-    rw (← take-cut (sizeOf s) s, ← drop-cut (sizeOf s) s, ← size .ensures, ← c .before .before .before .is-held .ensures, c .before .before .if1 .taken)
+    let held = c .before .before .before in
+    let sized = held .before .before in
+    let size = sized .content-size in
+    let s = sized .before .before .args .slot .now in
+    rw (← take-cut (sizeOf s) s, ← drop-cut (sizeOf s) s, ← size .ensures, ← held .is-held .ensures, c .before .before .if1 .taken)
     (c .is-zero .ensures ∙ ap isZero (take-all (length s - size .result) (drop (size .result) s) (simp length-drop (omega arith))))
 
 returns-2 : tie.Need-returns-2
 unfolding isFilled contentOf
 returns-2 c =
-    let s = c .before .before .before .before .before .args .slot .now in
-    rw (← take-cut (sizeOf s) s, ← c .before .before .before .content-size .ensures, ← c .before .is-held .ensures, c .if1 .left)
+    let held = c .before in
+    let sized = held .before .before in
+    let s = sized .before .before .args .slot .now in
+    rw (← take-cut (sizeOf s) s, ← sized .content-size .ensures, ← held .is-held .ensures, c .if1 .left)
 
 pub is-filled-spec : {M : Type 1} → statement M
 is-filled-spec =

@@ -1,5 +1,5 @@
--- `move_up` meets its contract. The loop's invariant: the bytes from i on have been moved, which is `movedUp` from i. The measure is how far i
--- still is from the first.
+-- `move_up` meets its contract. The loop's invariant: the bytes from i on have been moved, which is `movedUp` from i.
+-- The measure is how far i still is from the first.
 use mathlib.Core.Path.{_≡_, sym, ap, _∙_}
 use mathlib.Core.List.{List}
 use Prim.Native.Nat.{ℕ, suc, _+_, _-_, _≤_}
@@ -47,7 +47,8 @@ loop-again c =
     let a = c .before .before .before .args in
     let i = l .i - 1 in
     let one : l .i ≡ suc i = omega arith in
-    let moved : l .board ≡ movedUp (suc i) (a .to) (a .board .now) = l .inv .1 .1 ∙ ap (λ (n : ℕ). movedUp n (a .to) (a .board .now)) one in (
+    let moved : l .board ≡ movedUp (suc i) (a .to) (a .board .now) =
+    l .inv .1 .1 ∙ ap (λ (n : ℕ). movedUp n (a .to) (a .board .now)) one in (
       omega arith,
       (
         omega arith,

@@ -49,13 +49,17 @@ enum-told-3 c = search needs
 
 returns : tie.Need-returns
 returns c =
-    let a = c .before .before .before .before .before .before .args in
-    c .finished .ensures ∙ read-by (a .self) (a .piece .now) (c .before .before .before .before .came-of .ensures) (c .before .before .size .given .1)
+    let told = c .before .before in
+    let judged = told .before .before in
+    let a = judged .before .before .args in
+    c .finished .ensures ∙ read-by (a .self) (a .piece .now) (judged .came-of .ensures) (told .size .given .1)
 
 returns-2 : tie.Need-returns-2
 returns-2 c =
-    let a = c .before .before .before .before .before .args in
-    c .kept .ensures ∙ read-by (a .self) (a .piece .now) (c .before .before .before .came-of .ensures) (c .before .enum-told .given .1)
+    let told = c .before in
+    let judged = told .before .before in
+    let a = judged .before .before .args in
+    c .kept .ensures ∙ read-by (a .self) (a .piece .now) (judged .came-of .ensures) (told .enum-told .given .1)
 
 returns-3 : tie.Need-returns-3
 unfolding stepBy

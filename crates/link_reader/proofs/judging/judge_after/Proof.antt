@@ -17,7 +17,8 @@ at-most-requires c κs = search needs
 slice-aggregate-judge : tie.Need-slice-aggregate-judge
 slice-aggregate-judge c =
     let a = c .before .before .before .before .args in
-    sym (length-take-le (c .before .at-most .result) (a .bytes .now) (omega (arith, c .before .at-most .ensures, min-le-right (a .count) (length (a .bytes .now)))))
+    sym (length-take-le (c .before .at-most .result) (a .bytes .now)
+    (omega (arith, c .before .at-most .ensures, min-le-right (a .count) (length (a .bytes .now)))))
 
 judge-requires : tie.Need-judge-requires
 judge-requires c κs = search needs
