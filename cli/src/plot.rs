@@ -10,7 +10,7 @@ mod ticks;
 mod trace;
 
 use crate::options::Options;
-use crate::proved::respond;
+use crate::proved::record_of;
 use crate::stop::Stop;
 use crate::streams::{Input, Output};
 use crate::wire::{Record, Records};
@@ -35,7 +35,7 @@ pub fn run(words: &[String]) -> Result<u8, Stop> {
 }
 
 fn record(slot: &[u8]) -> Result<Record, Stop> {
-    match Records::new(&respond(slot)[..]).next() {
+    match Records::new(&record_of(slot)[..]).next() {
         Ok(Ok(Some(record))) => Ok(record),
         _ => Stop::said("the solver's record cannot be read"),
     }

@@ -5,7 +5,7 @@
 use crate::wire::ROOM;
 
 extern "C" {
-    fn lambert_respond(question: *const u8, size: usize, out: *mut u8, out_size: usize) -> usize;
+    fn lambert_record(question: *const u8, size: usize, out: *mut u8, out_size: usize) -> usize;
     fn lambert_wanted(question: *const u8, size: usize) -> u64;
     fn lambert_stations(question: *const u8, size: usize) -> u64;
     fn lambert_station(i: u16) -> i64;
@@ -14,9 +14,9 @@ extern "C" {
 }
 
 /// The record of a question of any length.
-pub fn respond(question: &[u8]) -> Vec<u8> {
+pub fn record_of(question: &[u8]) -> Vec<u8> {
     let mut out = [0; ROOM];
-    let size = unsafe { lambert_respond(question.as_ptr(), question.len(), out.as_mut_ptr(), out.len()) };
+    let size = unsafe { lambert_record(question.as_ptr(), question.len(), out.as_mut_ptr(), out.len()) };
     out[..size].to_vec()
 }
 

@@ -1,4 +1,4 @@
-use super::{post, respond, stations, time, wanted, TAKEN};
+use super::{post, record_of, stations, time, wanted, TAKEN};
 use crate::wire::slots::BOARD;
 use crate::wire::SLOT;
 
@@ -8,14 +8,14 @@ const REFUSED_1: [u8; 16] = [12, 0, 0, 0, 3, 0, 0, 0, 0, 0, 0, 0, 0, 0, 1, 0];
 fn gives_the_worked_record() {
     let samples = include_bytes!("../../../samples/questions");
     let record = [12, 0, 0, 0, 3, 0, 7, 0, 0, 0, 2, 0, 0, 0, 11, 0];
-    assert_eq!(respond(&samples[..SLOT]), record);
+    assert_eq!(record_of(&samples[..SLOT]), record);
 }
 
 #[test]
 fn takes_any_length() {
     let samples = include_bytes!("../../../samples/questions");
     for length in [0, 1, 81, 83, 164, 492] {
-        assert_eq!(respond(&samples[..length]), REFUSED_1, "{length} bytes");
+        assert_eq!(record_of(&samples[..length]), REFUSED_1, "{length} bytes");
     }
 }
 
@@ -43,7 +43,7 @@ fn gives_the_worked_times() {
 
 #[test]
 fn posts_to_boards_of_the_right_size_alone() {
-    let record = respond(&include_bytes!("../../../samples/questions")[..SLOT]);
+    let record = record_of(&include_bytes!("../../../samples/questions")[..SLOT]);
     for size in [0, 1, BOARD - 1, BOARD + 1] {
         assert_eq!(post(&mut vec![0; size], &record), 0, "{size} bytes");
     }
@@ -59,6 +59,6 @@ fn posts_to_boards_of_the_right_size_alone() {
 fn gives_the_records_of_lambert() {
     let file = |name: &str| std::fs::read(std::env::var(name).expect(name)).expect(name);
     let questions = file("LAMBERT_QUESTIONS");
-    let records: Vec<u8> = questions.chunks(SLOT).flat_map(respond).collect();
+    let records: Vec<u8> = questions.chunks(SLOT).flat_map(record_of).collect();
     assert!(records == file("LAMBERT_RECORDS"), "the records differ");
 }

@@ -1,7 +1,7 @@
 //! Threads that answer blocks of slots, and the replies in the order of the blocks.
 //! The queues are short, so that no more than a few blocks are held at a time.
 
-use crate::proved::respond;
+use crate::proved::record_of;
 use crate::stop::Stop;
 use crate::wire::SLOT;
 use std::io::{self, Read};
@@ -53,7 +53,7 @@ fn answer(work: &Mutex<Receiver<Work>>) {
         let Ok(Ok(next)) = work.lock().map(|queue| queue.recv()) else { return };
         let mut reply = Reply { records: Vec::new(), questions: 0, refused: 0 };
         for slot in next.slots.chunks(SLOT) {
-            let record = respond(slot);
+            let record = record_of(slot);
             reply.questions += 1;
             reply.refused += u64::from(record[4] == 3);
             reply.records.extend(record);

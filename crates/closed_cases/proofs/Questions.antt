@@ -2,7 +2,7 @@
 -- number given (0 where the question is accepted), one statement over all of it.
 use mathlib.Core.Path.{_≡_, refl}
 use mathlib.Core.List.{List, [], _∷_, _++_, map}
-use Prim.Native.Nat.{ℕ}
+use Prim.Native.Nat.{ℕ, _-_}
 use lib.Ieee.{add, sub, mul, div, size, neg, lt, le, eq, ofBits, toBits}
 use Rattle.float64.specs.Value.{finiteOf, magnitudeOf}
 use Rattle.float64.specs.Root.{rootOf}
@@ -11,7 +11,7 @@ use Rattle.vectors.specs.Vectors.{normSquared, difference, cross, orNan, rootOr
 use Rattle.geometry.specs.Triangles.{semiperimeterOf, atLeastZero, lambdaOf, triangleOf, shapeOf}
 use Rattle.geometry.specs.Conditions.{outsideOf, radiusOutside, noPlane, shortChord, flatTriangle}
 use Rattle.little_endian.specs.Bytes.{bytesOf, numberAt}
-use Rattle.records.specs.Layout.{encode, questionFields}
+use Rattle.records.specs.Layout.{answerRoom, encode, questionFields}
 use Rattle.records.specs.Records.{questionOf, questionBytes}
 use Rattle.entrance.specs.Conditions.{malformed, farOff, positionFar, positionsFar, muOutside, timeOutside, manyRevolutions, smallBuffer}
 use Rattle.entrance.specs.Judge.{checks, firstOf, judgeOf}
@@ -77,29 +77,29 @@ given (Accepted p) = 0
 
 pub rows : List Row
 rows =
-    row worked 528 0
-    ∷ row [] 528 1
-    ∷ row (worked ++ (0 ∷ [])) 528 1
-    ∷ row (asked 7 1 1 0 (flat ONE 0) (flat 0 ONE) ONE ONE) 528 0
-    ∷ row (asked 7 1 2 0 (flat ONE 0) (flat 0 ONE) ONE ONE) 528 1
-    ∷ row (asked 7 1 0 1 (flat ONE 0) (flat 0 ONE) ONE ONE) 528 1
-    ∷ row (from (flat NAN 0) (flat 0 ONE)) 528 2
-    ∷ row (from (flat ONE 0) (flat 0 INFINITY)) 528 2
-    ∷ row (from (flat P40 0) (flat 0 P40)) 528 0
-    ∷ row (from (flat P40-next 0) (flat 0 P40)) 528 2
-    ∷ row (from (flat ONE 0) (flat 0 HALF)) 528 3
-    ∷ row (with-mu P60) 528 0
-    ∷ row (with-mu P60-next) 528 4
-    ∷ row (with-time HALF) 528 5
-    ∷ row (with-time P40) 528 0
-    ∷ row (with-time P40-next) 528 5
-    ∷ row (with-revolutions 16) 528 0
+    row worked answerRoom 0
+    ∷ row [] answerRoom 1
+    ∷ row (worked ++ (0 ∷ [])) answerRoom 1
+    ∷ row (asked 7 1 1 0 (flat ONE 0) (flat 0 ONE) ONE ONE) answerRoom 0
+    ∷ row (asked 7 1 2 0 (flat ONE 0) (flat 0 ONE) ONE ONE) answerRoom 1
+    ∷ row (asked 7 1 0 1 (flat ONE 0) (flat 0 ONE) ONE ONE) answerRoom 1
+    ∷ row (from (flat NAN 0) (flat 0 ONE)) answerRoom 2
+    ∷ row (from (flat ONE 0) (flat 0 INFINITY)) answerRoom 2
+    ∷ row (from (flat P40 0) (flat 0 P40)) answerRoom 0
+    ∷ row (from (flat P40-next 0) (flat 0 P40)) answerRoom 2
+    ∷ row (from (flat ONE 0) (flat 0 HALF)) answerRoom 3
+    ∷ row (with-mu P60) answerRoom 0
+    ∷ row (with-mu P60-next) answerRoom 4
+    ∷ row (with-time HALF) answerRoom 5
+    ∷ row (with-time P40) answerRoom 0
+    ∷ row (with-time P40-next) answerRoom 5
+    ∷ row (with-revolutions 16) answerRoom 0
     ∷ row (with-revolutions 17) 0 6
-    ∷ row worked 527 7
-    ∷ row (from (flat ONE ONE) (flat ONE ONE)) 528 8
-    ∷ row (from (flat ONE ONE) (flat TWO TWO)) 528 8
-    ∷ row (from (flat ONE 0) (flat ONE TINY)) 528 9
-    ∷ row (from (flat ONE 0) (flat P39 P20)) 528 10
+    ∷ row worked (answerRoom - 1) 7
+    ∷ row (from (flat ONE ONE) (flat ONE ONE)) answerRoom 8
+    ∷ row (from (flat ONE ONE) (flat TWO TWO)) answerRoom 8
+    ∷ row (from (flat ONE 0) (flat ONE TINY)) answerRoom 9
+    ∷ row (from (flat ONE 0) (flat P39 P20)) answerRoom 10
     ∷ []
 
 pub each-row-holds : map (λ (r : Row). given (judgeOf (r .question) (r .room))) rows ≡ map (λ (r : Row). r .number) rows

@@ -11,7 +11,7 @@ use Rattle.vectors.specs.Vectors.{normSquared, difference, cross, orNan, rootOr
 use Rattle.geometry.specs.Triangles.{semiperimeterOf, atLeastZero, lambdaOf, triangleOf, shapeOf}
 use Rattle.geometry.specs.Conditions.{outsideOf, radiusOutside, noPlane, shortChord, flatTriangle}
 use Rattle.little_endian.specs.Bytes.{bytesOf, numberAt}
-use Rattle.records.specs.Layout.{encode, questionFields}
+use Rattle.records.specs.Layout.{answerRoom, encode, questionFields}
 use Rattle.records.specs.Records.{questionOf, questionBytes}
 use Rattle.entrance.specs.Conditions.{malformed, farOff, positionFar, positionsFar, muOutside, timeOutside, manyRevolutions, smallBuffer}
 use Rattle.entrance.specs.Judge.{checks, longWay, firstOf, judgeOf}
@@ -21,7 +21,7 @@ use Rattle.closed_cases.specs.Worked.{Row, resultOf, like, rows}
 use Rattle.hypergeometric.specs.Steps.{yOf, etaOf, c1Of, nextC, halfAnglesOf, ratioOf, seriesFrom, seriesOf, s4Of, backOf, gOf}
 use Rattle.flight_time.specs.Steps.{outsideRange, xOf, uOf, directOf, withRevolutions}
 use Rattle.flight_time.specs.Time.{timeOf}
-use Rattle.solution.specs.Solve.{solveOf, longest}
+use Rattle.solution.specs.Solve.{solveOf}
 use Rattle.demand.specs.Demand.{Past}
 
 pub each-row-holds : map (λ (r : Row). resultOf (r .case)) rows ≡ map (λ (r : Row). r .result) rows
@@ -36,12 +36,12 @@ each-row-holds = refl
 pub worked : List ℕ
 worked = like 7 1 (flat ONE 0) (flat 0 ONE) ONE
 
-no-fault : firstOf (let q = questionOf worked in checks (length worked) longest q (shapeOf (q .r1) (q .r2) (longWay q))) ≡ 0
+no-fault : firstOf (let q = questionOf worked in checks (length worked) answerRoom q (shapeOf (q .r1) (q .r2) (longWay q))) ≡ 0
 unfolding worked like asked checks firstOf malformed farOff positionFar positionsFar muOutside timeOutside manyRevolutions smallBuffer
     outsideOf radiusOutside noPlane shortChord flatTriangle semiperimeterOf atLeastZero lambdaOf triangleOf shapeOf normSquared
     difference cross orNan rootOrNan questionOf questionBytes encode questionFields bytesOf numberAt rootOf magnitudeOf finiteOf add
     sub mul div neg lt le eq ofBits toBits
 no-fault = refl
 
-pub worked-past : Past worked longest
-worked-past = accepted-exactly worked longest .only (accepted-when worked longest no-fault)
+pub worked-past : Past worked answerRoom
+worked-past = accepted-exactly worked answerRoom .only (accepted-when worked answerRoom no-fault)

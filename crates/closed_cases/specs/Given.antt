@@ -4,6 +4,7 @@ use mathlib.Core.List.{List}
 use Rattle.float64.specs.Notation.{_⊖_, _⊗_, bits, 0F, 1F}
 use Rattle.float64.specs.declared.Vector.{Vector}
 use Rattle.geometry.specs.declared.Triangle.{Triangle}
+use Rattle.records.specs.Layout.{questionKind, questionLength}
 use Rattle.records.specs.Records.{questionBytes}
 
 abbrev pub HALF : ℕ
@@ -22,7 +23,20 @@ flat x y = record { x = bits x; y = bits y; z = bits 0 }
 -- the bytes of a question of job 7 (or another) and revision 2
 unfoldable pub asked : ℕ → ℕ → ℕ → ℕ → Vector → Vector → ℕ → ℕ → List ℕ
 asked job m way spare p1 p2 mu time =
-    questionBytes (record { length = 78; kind = 1; job = job; revision = 2; revolutions = m; way = way; spare = spare; r1 = p1; r2 = p2; mu = bits mu; time = bits time })
+    questionBytes
+    (record {
+      length = questionLength;
+      kind = questionKind;
+      job = job;
+      revision = 2;
+      revolutions = m;
+      way = way;
+      spare = spare;
+      r1 = p1;
+      r2 = p2;
+      mu = bits mu;
+      time = bits time;
+    })
 
 -- a triangle with the given L: c/s is 1 − L²; ρ and σ don't count here
 unfoldable pub withLambda : ℕ → Triangle

@@ -12,7 +12,8 @@ use Rattle.float64.specs.declared.Vector.{Vector}
 use Rattle.flight_time.specs.Time.{timeOf}
 use Rattle.flight_time.specs.declared.Place.{Place}
 use Rattle.flight_time.specs.declared.Place.the-variants.{Timed, Void}
-use Rattle.solution.specs.Solve.{solveOf, longest, numberGiven}
+use Rattle.records.specs.Layout.{answerRoom}
+use Rattle.solution.specs.Solve.{solveOf, outcomeNumber}
 use Rattle.closed_cases.specs.Given.{HALF, ONE, TWO, flat, asked, withLambda}
 
 -- what a case asks: a root, by the operand's bits; the time at a place, by L's bits, k and M; the number of a question, by its bytes
@@ -29,7 +30,7 @@ pub data Result : Type 0 where
 unfoldable pub resultOf : Case → Result
 resultOf (root b) = aRoot (rootOf (bits b))
 resultOf (time L k m) = aPlace (timeOf (withLambda L) k m)
-resultOf (question s) = aNumber (numberGiven (solveOf s (replicate longest 0) .outcome))
+resultOf (question s) = aNumber (outcomeNumber (solveOf s (replicate answerRoom 0) .outcome))
 
 -- the bytes of a question like 01's worked one, with another job, M, positions or mu
 unfoldable pub like : ℕ → ℕ → Vector → Vector → ℕ → List ℕ

@@ -10,6 +10,7 @@ use lib.Ieee.{Float}
 use lib.ListN.{length, getD, take, drop, length-append, List·getD-map}
 use lib.Seq.{take-at, drop-at, drop-drop}
 use Rattle.float64.specs.Value.{finiteOf}
+use Rattle.records.specs.Layout.{headSize, entrySize, answerSize}
 use Rattle.records.specs.Records.{headBytes, answerHeadOf, entryBytes, entriesBytes, answerBytes}
 use Rattle.records.specs.declared.Entry.{Entry}
 use Rattle.records.proofs.Sizes.{head-length, entry-length}
@@ -30,31 +31,32 @@ use Rattle.bisection.specs.declared.Bracket.{Bracket}
 use Rattle.crossing_laws.proofs.AnyTriangle.{known-finite}
 use Rattle.stations.proofs.Grids.{grid-rises}
 use Rattle.crossing_laws.proofs.BracketLaws.{bracket-holds}
-use Rattle.velocity.specs.Chosen.{upperChosen, velocitiesFinite}
-use Rattle.entries.specs.Entries.{placeOf, upperOf, takesUpper, velocitiesAt, velocitiesFor, finiteFor, endNumber, entryFor, every}
+use Rattle.velocity.specs.Chosen.{upperChosen}
+use Rattle.entries.specs.Entries.{placeOf, upperOf, takesUpper, velocitiesAt, velocitiesFor, finiteFor, endNumber}
+use Rattle.entries.specs.Entries.{entryFor, entryFinite, every}
 use Rattle.solution.specs.Crossed.{searchOf, sidesOf, gridOf, lastPlace, bracketsOf, entriesOf}
-use Rattle.demand.specs.Demand.{Counts, pairsOf, bracketAt, entryAt, entryFinite, ChosenBy}
+use Rattle.demand.specs.Demand.{Counts, pairsOf, bracketAt, entryAt, ChosenBy}
 
 -- ---- bytes
 
-entry-at : (es : List Entry) (tail : List ℕ) (e : ℕ) (d : Entry) → e < length es → take 64 (drop (64 * e) (entriesBytes es ++ tail)) ≡ entryBytes (getD es e d)
+entry-at : (es : List Entry) (tail : List ℕ) (e : ℕ) (d : Entry) → e < length es → take entrySize (drop (entrySize * e) (entriesBytes es ++ tail)) ≡ entryBytes (getD es e d)
 unfolding entriesBytes
 entry-at [] tail e d h = absurd (omega arith)
-entry-at (x ∷ xs) tail zero d h = ap (take 64) (append-assoc (entryBytes x) (entriesBytes xs) tail) ∙ take-at (entryBytes x) (entriesBytes xs ++ tail) 64 (entry-length x)
+entry-at (x ∷ xs) tail zero d h = ap (take entrySize) (append-assoc (entryBytes x) (entriesBytes xs) tail) ∙ take-at (entryBytes x) (entriesBytes xs ++ tail) entrySize (entry-length x)
 entry-at (x ∷ xs) tail (suc e) d h =
-    let k : 64 * suc e ≡ 64 + 64 * e = omega arith in
-    ap (λ (n : ℕ). take 64 (drop n (entryBytes x ++ entriesBytes xs ++ tail))) k
-    ∙ ap (take 64) (sym (drop-drop (64 * e) 64 (entryBytes x ++ entriesBytes xs ++ tail)))
-    ∙ ap (λ (l : List ℕ). take 64 (drop (64 * e) l)) (ap (drop 64) (append-assoc (entryBytes x) (entriesBytes xs) tail) ∙ drop-at (entryBytes x) (entriesBytes xs ++ tail) 64 (entry-length x))
+    let k : entrySize * suc e ≡ entrySize + entrySize * e = omega arith in
+    ap (λ (n : ℕ). take entrySize (drop n (entryBytes x ++ entriesBytes xs ++ tail))) k
+    ∙ ap (take entrySize) (sym (drop-drop (entrySize * e) entrySize (entryBytes x ++ entriesBytes xs ++ tail)))
+    ∙ ap (λ (l : List ℕ). take entrySize (drop (entrySize * e) l)) (ap (drop entrySize) (append-assoc (entryBytes x) (entriesBytes xs) tail) ∙ drop-at (entryBytes x) (entriesBytes xs ++ tail) entrySize (entry-length x))
     ∙ entry-at xs tail e d (omega arith)
 
--- the entry of index e stands at 16 + 64 * e of an answer, whatever follows it
-pub entry-place : (job revision : ℕ) (es : List Entry) (tail : List ℕ) (e : ℕ) (d : Entry) → e < length es → take 64 (drop (16 + 64 * e) (answerBytes job revision es ++ tail)) ≡ entryBytes (getD es e d)
+-- the entry of index e stands where an answer with e entries ends, whatever follows it
+pub entry-place : (job revision : ℕ) (es : List Entry) (tail : List ℕ) (e : ℕ) (d : Entry) → e < length es → take entrySize (drop (answerSize e) (answerBytes job revision es ++ tail)) ≡ entryBytes (getD es e d)
 unfolding answerBytes
 entry-place job revision es tail e d h =
     let head = headBytes (answerHeadOf job revision (length es)) in
-    ap (take 64) (sym (drop-drop (64 * e) 16 (head ++ entriesBytes es ++ tail)))
-    ∙ ap (λ (l : List ℕ). take 64 (drop (64 * e) l)) (ap (drop 16) (append-assoc head (entriesBytes es) tail) ∙ drop-at head (entriesBytes es ++ tail) 16 (head-length (answerHeadOf job revision (length es))))
+    ap (take entrySize) (sym (drop-drop (entrySize * e) headSize (head ++ entriesBytes es ++ tail)))
+    ∙ ap (λ (l : List ℕ). take entrySize (drop (entrySize * e) l)) (ap (drop headSize) (append-assoc head (entriesBytes es) tail) ∙ drop-at head (entriesBytes es ++ tail) headSize (head-length (answerHeadOf job revision (length es))))
     ∙ entry-at es tail e d h
 
 map-twice : {A B C : Type 0} (f : B → C) (g : A → B) (xs : List A) → map f (map g xs) ≡ map (λ x. f (g x)) xs
@@ -135,7 +137,7 @@ module _ (p : Problem) where
   finite-not e = not-each (pairsOf p) e
 
   pub finite-is : (i : ℕ) → entryFinite (entryAt p i) ≡ finiteFor p (bracketAt p i)
-  unfolding entryFor finiteFor velocitiesFinite
+  unfolding finiteFor
   finite-is i = refl
 
   -- ---- a pair that counts is one that crosses, a station has a time where its side is known

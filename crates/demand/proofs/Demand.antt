@@ -12,7 +12,7 @@ use lib.ListN.{length, getD, take, drop, List·getD-map, length-map}
 use Rattle.geometry.specs.Triangles.{shapeOf}
 use Rattle.geometry.specs.declared.Shape.{Shape}
 use Rattle.little_endian.specs.Bytes.{written}
-use Rattle.records.specs.Layout.{answerSize}
+use Rattle.records.specs.Layout.{entrySize, answerSize, answerRoom}
 use Rattle.records.specs.Records.{questionOf, headOf, answerHeadOf, entryBytes, answerBytes}
 use Rattle.records.specs.Ranges.{HeadHeld}
 use Rattle.records.specs.declared.Question.{Question}
@@ -39,7 +39,7 @@ use Rattle.solution.specs.declared.Outcome.the-variants.{Refused, Answered}
 use Rattle.entries.specs.Entries.{entryFor, finiteFor, every}
 use Rattle.solution.specs.Crossed.{searchOf, sidesOf, gridOf, lastPlace, entriesOf}
 use Rattle.solution.specs.Table.{crossingCount, anyVoid, allFinite, lateChecks}
-use Rattle.solution.specs.Solve.{Solved, refused, answered, settledOf, after, solveOf}
+use Rattle.solution.specs.Solve.{Solved, refused, answered, settledOf, solvedAfter, solveOf}
 use Rattle.demand.specs.Demand.{problemFrom, tableOf, rowOf, HasAnswer, Demand1, Past, Counts, pairsOf, bracketAt, entryAt, FiniteAll, FiniteNot, TimedAll, VoidSome, NonePair, Pairs, Answer, Demand3}
 use Rattle.demand.specs.Demand.{InDomain}
 use Rattle.solution.proofs.Numbering.{rows, rows-are}
@@ -91,7 +91,7 @@ module _ (s b : List ℕ) where
   abbrev given : ℕ → Solved
   given n = cond (eqb n 0) (answered p b) (refused n b)
 
-  by-entrance : (t : Bool) → eqb (firstOf entrance) 0 ≡ t → after (cond t (Accepted p) (Refused (firstOf entrance))) b ≡ given (cond t (firstOf (lateChecks p)) (firstOf entrance))
+  by-entrance : (t : Bool) → eqb (firstOf entrance) 0 ≡ t → solvedAfter (cond t (Accepted p) (Refused (firstOf entrance))) b ≡ given (cond t (firstOf (lateChecks p)) (firstOf entrance))
   unfolding settledOf
   by-entrance true e = refl
   by-entrance false e = rw e
@@ -230,7 +230,7 @@ module _ (s b : List ℕ) where
         }
 
     -- an accepted answer
-    room : 16 + 64 * 8 ≤ length b
+    room : answerRoom ≤ length b
     room = accepted-room s (length b) p (accepted-exactly s (length b) .always past)
 
     few : N ≡ 0 → C ≤ 8
@@ -239,20 +239,20 @@ module _ (s b : List ℕ) where
     many-is : (n : ℕ) → length (entriesOf p) ≡ n → n ≡ C
     many-is n e = sym e ∙ ap length (entries-pairs p) ∙ length-map (pairsOf p) (entryAt p)
 
-    bytes-are : (n : ℕ) → N ≡ 0 → length (entriesOf p) ≡ n → solveOf s b .buffer ≡ answerBytes (p .job) (p .revision) (map (entryAt p) (pairsOf p)) ++ drop (16 + 64 * n) b
+    bytes-are : (n : ℕ) → N ≡ 0 → length (entriesOf p) ≡ n → solveOf s b .buffer ≡ answerBytes (p .job) (p .revision) (map (entryAt p) (pairsOf p)) ++ drop (answerSize n) b
     bytes-are n z e =
-        let long : length (answerBytes (p .job) (p .revision) (entriesOf p)) ≡ 16 + 64 * n = answer-length (p .job) (p .revision) (entriesOf p) ∙ ap (λ (k : ℕ). 16 + 64 * k) e in
+        let long : length (answerBytes (p .job) (p .revision) (entriesOf p)) ≡ answerSize n = answer-length (p .job) (p .revision) (entriesOf p) ∙ ap (λ (k : ℕ). answerSize k) e in
         ap (λ (x : Solved). x .buffer) (when-answered z)
         ∙ laid b (answerBytes (p .job) (p .revision) (entriesOf p)) (omega (arith, long, room, few z, many-is n e))
         ∙ ap (λ (k : ℕ). answerBytes (p .job) (p .revision) (entriesOf p) ++ drop k b) long
-        ∙ ap (λ (es : List Entry). answerBytes (p .job) (p .revision) es ++ drop (16 + 64 * n) b) (entries-pairs p)
+        ∙ ap (λ (es : List Entry). answerBytes (p .job) (p .revision) es ++ drop (answerSize n) b) (entries-pairs p)
 
     entry-is : (n : ℕ) → N ≡ 0 → length (entriesOf p) ≡ n → (k : ℕ) → k < n →
-        take 64 (drop (16 + 64 * k) (solveOf s b .buffer)) ≡ entryBytes (entryAt p (getD (pairsOf p) k 0))
+        take entrySize (drop (answerSize k) (solveOf s b .buffer)) ≡ entryBytes (entryAt p (getD (pairsOf p) k 0))
     entry-is n z e k h =
         let l : k < length (map (entryAt p) (pairsOf p)) = omega (arith, length-map (pairsOf p) (entryAt p), many-is n e, h) in
-        ap (λ (x : List ℕ). take 64 (drop (16 + 64 * k) x)) (bytes-are n z e)
-        ∙ entry-place (p .job) (p .revision) (map (entryAt p) (pairsOf p)) (drop (16 + 64 * n) b) k (entryAt p 0) l
+        ap (λ (x : List ℕ). take entrySize (drop (answerSize k) x)) (bytes-are n z e)
+        ∙ entry-place (p .job) (p .revision) (map (entryAt p) (pairsOf p)) (drop (answerSize n) b) k (entryAt p 0) l
         ∙ ap entryBytes (List·getD-map (entryAt p) (pairsOf p) k 0)
 
     head-is : (n : ℕ) → N ≡ 0 → length (entriesOf p) ≡ n → HeadHeld (answerHeadOf (q .job) (q .revision) n) →
@@ -263,7 +263,7 @@ module _ (s b : List ℕ) where
         let size : length es ≡ n = length-map (pairsOf p) (entryAt p) ∙ sym (many-is n e) in
         let own : HeadHeld (answerHeadOf (q .job) (q .revision) (length es)) = rw size held in
         ap headOf (bytes-are n z e)
-        ∙ answer-head-read (q .job) (q .revision) es (drop (16 + 64 * n) b) own
+        ∙ answer-head-read (q .job) (q .revision) es (drop (answerSize n) b) own
         ∙ ap (answerHeadOf (q .job) (q .revision)) size
 
     the-answer : (n : ℕ) → solveOf s b .outcome ≡ Answered n → Answer s b n

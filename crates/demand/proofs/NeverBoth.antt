@@ -8,8 +8,8 @@ use lib.Dec.{eqb}
 use lib.ListN.{length, drop}
 use lib.Seq.{drop-append-seam}
 use Rattle.little_endian.specs.Bytes.{written}
-use Rattle.records.specs.Records.{headBytes, answerBytes}
-use Rattle.records.proofs.Sizes.{head-length}
+use Rattle.records.specs.Layout.{refusalSize, answerRoom}
+use Rattle.records.specs.Records.{answerBytes}
 use Rattle.entrance.specs.Judge.{firstOf, judgeOf}
 use Rattle.entrance.specs.declared.Problem.{Problem}
 use Rattle.entrance.specs.declared.Judged.{Judged}
@@ -17,9 +17,9 @@ use Rattle.entrance.specs.declared.Judged.the-variants.{Refused, Accepted}
 use Rattle.solution.specs.declared.Outcome.{Outcome}
 use Rattle.solution.specs.declared.Outcome.the-variants.{Refused, Answered}
 use Rattle.solution.specs.Table.{lateChecks}
-use Rattle.solution.specs.Solve.{Solved, refused, answered, settledOf, after, solveOf, longest, refusalFor, recordOf, Response, responseOf}
+use Rattle.solution.specs.Solve.{Solved, refused, answered, settledOf, solvedAfter, solveOf, refusalRecord, recordOf, Output, outputOf}
 use Rattle.demand.specs.Demand.{Recording}
-use Rattle.solver.proofs.Recorded.{room-same, when-answered, when-refused, has-room, apart, record-short}
+use Rattle.solver.proofs.Recorded.{room-same, when-answered, when-refused, has-room, apart, refusal-record-length, record-short}
 use Rattle.solver.proofs.WholeRecord.{record-laid, record-size, record-first}
 use Rattle.little_endian.proofs.Laid.{laid, laid-length}
 
@@ -28,26 +28,26 @@ module _ (s : List ℕ) where
   by-row p true b c = refl
   by-row p false b c = refl
 
-  by-verdict : (j : Judged) (b c : List ℕ) → after j b .outcome ≡ after j c .outcome
+  by-verdict : (j : Judged) (b c : List ℕ) → solvedAfter j b .outcome ≡ solvedAfter j c .outcome
   unfolding settledOf
   by-verdict (Refused n) b c = refl
   by-verdict (Accepted p) b c = by-row p (eqb (firstOf (lateChecks p)) 0) b c
 
   -- the same outcome, whatever the two buffers held
-  pub same-outcome : (b c : List ℕ) → longest ≤ length b → longest ≤ length c → solveOf s b .outcome ≡ solveOf s c .outcome
+  pub same-outcome : (b c : List ℕ) → answerRoom ≤ length b → answerRoom ≤ length c → solveOf s b .outcome ≡ solveOf s c .outcome
   unfolding solveOf
   same-outcome b c h k =
-      ap (λ (j : Judged). after j b .outcome) (room-same s (length b) h)
-      ∙ by-verdict (judgeOf s longest) b c
-      ∙ sym (ap (λ (j : Judged). after j c .outcome) (room-same s (length c) k))
+      ap (λ (j : Judged). solvedAfter j b .outcome) (room-same s (length b) h)
+      ∙ by-verdict (judgeOf s answerRoom) b c
+      ∙ sym (ap (λ (j : Judged). solvedAfter j c .outcome) (room-same s (length c) k))
 
   -- never yes to one and no to the other
-  pub never-both : (b c : List ℕ) → longest ≤ length b → longest ≤ length c → (m n : ℕ) → solveOf s b .outcome ≡ Answered m → solveOf s c .outcome ≡ Refused n → ⊥
+  pub never-both : (b c : List ℕ) → answerRoom ≤ length b → answerRoom ≤ length c → (m n : ℕ) → solveOf s b .outcome ≡ Answered m → solveOf s c .outcome ≡ Refused n → ⊥
   never-both b c h k m n e f = apart (sym f ∙ sym (same-outcome b c h k) ∙ e)
 
   -- ---- the record
 
-  module _ (b : List ℕ) (h : longest ≤ length b) where
+  module _ (b : List ℕ) (h : answerRoom ≤ length b) where
     -- the record's bytes laid over the buffer's start, twice as once
     short : length (recordOf s) ≤ length b
     short = omega (arith, record-short s, h)
@@ -73,7 +73,7 @@ module _ (s : List ℕ) where
     again-by (Refused n) e = ap (solveOf s) (when-refused s b n h e .0)
     again-by (Answered n) e =
         let w = when-answered s b n h e in
-        let long : longest ≤ length over = omega (arith, h, over-long) in
+        let long : answerRoom ≤ length over = omega (arith, h, over-long) in
         let same = same-outcome over b long h in
         let v = when-answered s over n long (same ∙ e) in
         ap (solveOf s) (w .0) ∙ both (solveOf s over) (solveOf s b) same (v .0 ∙ twice ∙ sym (w .0))
@@ -87,15 +87,15 @@ module _ (s : List ℕ) where
         record {
           answered = λ n e.
               let w = when-answered s b n h e in
-              (ap (λ (x : Response). x .size) r ∙ w .1, ap (λ (x : Response). x .buffer) r ∙ sym (w .0));
+              (ap (λ (x : Output). x .size) r ∙ w .1, ap (λ (x : Output). x .buffer) r ∙ sym (w .0));
           refused = λ n e.
               let w = when-refused s b n h e in
-              let k : length (headBytes (refusalFor s n)) ≡ 16 = head-length (refusalFor s n) in (
-                ap (λ (x : Response). x .size) r ∙ ap length (w .1) ∙ k,
-                ap (λ (x : Response). x .buffer) r
+              let k : length (refusalRecord s n) ≡ refusalSize n = refusal-record-length s n in (
+                ap (λ (x : Output). x .size) r ∙ ap length (w .1) ∙ k,
+                ap (λ (x : Output). x .buffer) r
                     ∙ ap (written b) (w .1)
-                    ∙ laid b (headBytes (refusalFor s n)) (omega (arith, k, h))
-                    ∙ ap (λ (m : ℕ). headBytes (refusalFor s n) ++ drop m b) k,
+                    ∙ laid b (refusalRecord s n) (omega (arith, k, h))
+                    ∙ ap (λ (m : ℕ). refusalRecord s n ++ drop m b) k,
               );
           size = record-size s b h;
           fits = record-short s;

@@ -11,8 +11,8 @@ use Rattle.float64.specs.Notation.{_≺_, 0F, 1F}
 use Rattle.float64.specs.Value.{finiteOf, magnitudeOf}
 use Rattle.geometry.specs.Triangles.{shapeOf}
 use Rattle.little_endian.specs.Bytes.{AreBytes}
-use Rattle.records.specs.Layout.{answerSize}
-use Rattle.records.specs.Records.{questionOf, headOf, headBytes, answerHeadOf, entryOf, entryBytes, answerBytes}
+use Rattle.records.specs.Layout.{entrySize, answerSize, answerRoom, refusalSize}
+use Rattle.records.specs.Records.{questionOf, headOf, answerHeadOf, entryOf, entryBytes, answerBytes}
 use Rattle.records.specs.declared.Entry.{Entry}
 use Rattle.entrance.specs.Judge.{Check, checks, longWay, problemOf}
 use Rattle.entrance.specs.Table.{appliesIn, conditionOf, First, Exactly}
@@ -23,13 +23,13 @@ use Rattle.sweep.specs.Crossings.{crossings}
 use Rattle.crossing_laws.specs.Brackets.{IsBracket}
 use Rattle.crossing_laws.specs.Listed.{Listed, Rising}
 use Rattle.bisection.specs.declared.Bracket.{Bracket}
-use Rattle.velocity.specs.Chosen.{upperChosen, vectorFinite}
+use Rattle.velocity.specs.Chosen.{upperChosen}
 use Rattle.solution.specs.declared.Outcome.{Outcome}
 use Rattle.solution.specs.declared.Outcome.the-variants.{Refused, Answered}
-use Rattle.entries.specs.Entries.{placeOf, velocitiesAt, endNumber, entryFor}
+use Rattle.entries.specs.Entries.{placeOf, velocitiesAt, endNumber, entryFor, entryFinite}
 use Rattle.solution.specs.Crossed.{sidesOf, gridOf, lastPlace}
 use Rattle.solution.specs.Table.{lateChecks}
-use Rattle.solution.specs.Solve.{Solved, solveOf, longest, refusalFor, recordOf, Response, responseOf}
+use Rattle.solution.specs.Solve.{Solved, solveOf, refusalRecord, recordOf, Output, outputOf}
 
 -- the problem of a question's bytes
 abbrev pub problemFrom : List ℕ → Problem
@@ -80,7 +80,7 @@ pub record Counts (p : Problem) (i : ℕ) : Type 0 where
   pub upperIs : placeOf p (gridOf p .place (i + 1)) ≡ Timed upperTime
   pub apart : (lowerTime ≺ p .wanted) ≡ not (upperTime ≺ p .wanted)
 
--- the pairs that count, each by the index of its lower place; the bracket and the entry of one; whether an entry's velocities are finite
+-- the pairs that count, each by the index of its lower place; the bracket and the entry of one
 abbrev pub pairsOf : Problem → List ℕ
 pairsOf p = crossings (sidesOf p) (gridOf p) (lastPlace p)
 
@@ -89,9 +89,6 @@ bracketAt p i = bracketOf (sidesOf p) (gridOf p) i
 
 abbrev pub entryAt : Problem → ℕ → Entry
 entryAt p i = entryFor p (bracketAt p i)
-
-abbrev pub entryFinite : Entry → Bool
-entryFinite e = vectorFinite (e .v1) && vectorFinite (e .v2)
 
 -- every velocity of every such pair is finite, some is not; every place has a time, some has none; no pair counts
 abbrev pub FiniteAll : Problem → Type 0
@@ -135,8 +132,8 @@ pub record Pairs (p : Problem) : Type 0 where
 -- the bytes of an accepted answer: the record at the buffer's start, as many entries as pairs, the first for the lowest pair and so on, and the buffer's own bytes after it
 pub record Answer (s b : List ℕ) (n : ℕ) : Type 0 where
   pub many : n ≡ length (pairsOf (problemFrom s))
-  pub bytes : solveOf s b .buffer ≡ answerBytes (problemFrom s .job) (problemFrom s .revision) (map (entryAt (problemFrom s)) (pairsOf (problemFrom s))) ++ drop (16 + 64 * n) b
-  pub entry : (e : ℕ) → e < n → take 64 (drop (16 + 64 * e) (solveOf s b .buffer)) ≡ entryBytes (entryAt (problemFrom s) (getD (pairsOf (problemFrom s)) e 0))
+  pub bytes : solveOf s b .buffer ≡ answerBytes (problemFrom s .job) (problemFrom s .revision) (map (entryAt (problemFrom s)) (pairsOf (problemFrom s))) ++ drop (answerSize n) b
+  pub entry : (e : ℕ) → e < n → take entrySize (drop (answerSize e) (solveOf s b .buffer)) ≡ entryBytes (entryAt (problemFrom s) (getD (pairsOf (problemFrom s)) e 0))
   -- a reader of the bytes finds each pair's entry
   pub entryRead : (e : ℕ) → e < n →
       entryOf (drop (answerSize e) (solveOf s b .buffer)) ≡ entryAt (problemFrom s) (getD (pairsOf (problemFrom s)) e 0)
@@ -160,12 +157,12 @@ pub record Demand3 (s b : List ℕ) : Type 0 where
 
 -- ---- the record that a question gets, given room, and its outcome
 pub record Recording (s b : List ℕ) : Type 0 where
-  pub answered : (n : ℕ) → solveOf s b .outcome ≡ Answered n → (responseOf s b .size ≡ 16 + 64 * n) × (responseOf s b .buffer ≡ solveOf s b .buffer)
-  pub refused : (n : ℕ) → solveOf s b .outcome ≡ Refused n → (responseOf s b .size ≡ 16) × (responseOf s b .buffer ≡ headBytes (refusalFor s n) ++ drop 16 b)
+  pub answered : (n : ℕ) → solveOf s b .outcome ≡ Answered n → (outputOf s b .size ≡ answerSize n) × (outputOf s b .buffer ≡ solveOf s b .buffer)
+  pub refused : (n : ℕ) → solveOf s b .outcome ≡ Refused n → (outputOf s b .size ≡ refusalSize n) × (outputOf s b .buffer ≡ refusalRecord s n ++ drop (refusalSize n) b)
   -- it stands at the buffer's start, fits it, and depends on the question's bytes alone
-  pub size : responseOf s b .size ≡ length (recordOf s)
-  pub fits : length (recordOf s) ≤ 528
-  pub starts : take (length (recordOf s)) (responseOf s b .buffer) ≡ recordOf s
+  pub size : outputOf s b .size ≡ length (recordOf s)
+  pub fits : length (recordOf s) ≤ answerRoom
+  pub starts : take (length (recordOf s)) (outputOf s b .buffer) ≡ recordOf s
   -- asked again over what the first call left, nothing changes
   pub again : solveOf s (solveOf s b .buffer) ≡ solveOf s b
 
@@ -173,4 +170,4 @@ pub record Recording (s b : List ℕ) : Type 0 where
 pub record Demanded : Type 0 where
   pub first : (s b : List ℕ) → Demand1 s b
   pub third : (s b : List ℕ) → Past s (length b) → Demand3 s b
-  pub recorded : (s b : List ℕ) → longest ≤ length b → Recording s b
+  pub recorded : (s b : List ℕ) → answerRoom ≤ length b → Recording s b

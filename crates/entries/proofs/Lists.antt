@@ -1,14 +1,16 @@
 -- Lists of brackets and of entries: what one more adds (`every-next`, `places-next`), that a count is cut at the places of a list
--- (`take-cut-count`), and that the entries in their places are found again (`taken-again`), all finite where the brackets' are
--- (`finite-again`).
+-- (`take-cut-count`), that the entries in their places are found again (`taken-again`), and that all entries are finite where those of
+-- the brackets are (`every-entry`).
 use mathlib.Core.Path.{_≡_, refl, sym, ap, _∙_}
 use mathlib.Core.Bool.{Bool, true, false, _&&_, and-assoc, and-true}
-use mathlib.Core.List.{List, [], _∷_, _++_, map}
+use mathlib.Core.List.{List, [], _∷_, _++_, map, append-nil}
 use Prim.Native.Nat.{ℕ, zero, suc, _+_, _-_, _≤_, _<_, min}
 use native.Mathlib.Omega.{arith}
 use native.Mathlib.Numerals.{add-one}
+use borrow.Author.Tests.{ltb-true, ltb-false}
+use lib.Dec.{ltb}
 use lib.ListN.{length, take, set, replicate, getD, length-append, length-map}
-use lib.Seq.{take-suc, take-at, length-take-le, set-append-seam, append-snoc}
+use lib.Seq.{take-suc, take-at, take-all, length-take-le, set-append-seam, append-snoc}
 use Rattle.little_endian.proofs.Cuts.{take-cut}
 use Rattle.records.specs.Layout.{mostEntries}
 use Rattle.records.specs.declared.Entry.{Entry}
@@ -67,16 +69,26 @@ module _ (p : Problem) (list : List Bracket) where
       ∙ ap places (sym (map-snoc (take i list) (getD list i d)))
       ∙ rw add-one (ap (λ (bs : List Bracket). places (map (entryFor p) bs)) (sym (take-suc list i d h)))
 
-  module _ (count : ℕ) (h : count ≤ length list) where
-    pub taken-again : take count (places (entriesUpTo count)) ≡ entriesUpTo count
-    taken-again =
-        let es = entriesUpTo count in
-        take-at es (replicate (mostEntries - length es) unused) count (up-to-length count h)
+  -- as many as the count says are the entries again
+  pub taken-again : (count : ℕ) → length list ≡ mostEntries → take count (places (entriesUpTo count)) ≡ entriesUpTo count
+  taken-again count all = by (ltb mostEntries count) refl
+    where
+      by : (many : Bool) → ltb mostEntries count ≡ many → take count (places (entriesUpTo count)) ≡ entriesUpTo count
+      by false few =
+          let es = entriesUpTo count in
+          let long = up-to-length count (omega (arith, ltb-false mostEntries count few, all)) in
+          take-at es (replicate (mostEntries - length es) unused) count long
+      by true many =
+          let es = entriesUpTo count in
+          let more = ltb-true mostEntries count many in
+          let long : length es ≡ mostEntries =
+          length-map (take count list) (entryFor p) ∙ ap length (take-all count list (omega (arith, more, all))) ∙ all in
+          let none : mostEntries - length es ≡ 0 = omega (arith, long) in
+          ap (λ (k : ℕ). take count (es ++ replicate k unused)) none
+          ∙ ap (take count) (append-nil es)
+          ∙ take-all count es (omega (arith, long, more))
 
-    every-entry : (bs : List Bracket) → every entryFinite (map (entryFor p) bs) ≡ every (finiteFor p) bs
-    unfolding every finiteFor
-    every-entry [] = refl
-    every-entry (b ∷ bs) = ap (λ r. finiteFor p b && r) (every-entry bs)
-
-    pub finite-again : every entryFinite (take count (places (entriesUpTo count))) ≡ every (finiteFor p) (take count list)
-    finite-again = ap (every entryFinite) taken-again ∙ every-entry (take count list)
+pub every-entry : (p : Problem) (bs : List Bracket) → every entryFinite (map (entryFor p) bs) ≡ every (finiteFor p) bs
+unfolding every finiteFor
+every-entry p [] = refl
+every-entry p (b ∷ bs) = ap (λ r. finiteFor p b && r) (every-entry p bs)

@@ -103,7 +103,8 @@ pub(crate) fn cut_count(count: usize) -> u16
 // The entries of the first `count` brackets, of all where it is above the places of the list; the places after
 // them hold zeros.
 pub fn entries_of(p: Problem, list: [Bracket; MOST_ENTRIES], count: usize) -> [Entry; MOST_ENTRIES]
-    ensures { λ r. ⌜ r ≡ places (map (entryFor p) (take count list)) ⌝ }
+    ensures places { λ r. ⌜ r ≡ places (map (entryFor p) (take count list)) ⌝ }
+    ensures taken { λ r. ⌜ take count r ≡ map (entryFor p) (take count list) ⌝ }
 {
     let few = cut_count(count) as usize;
     let none = Vector {

@@ -16,7 +16,7 @@ pub fn record_of(question: &[u8], out: &mut [u8; ANSWER_ROOM]) -> usize
     ensures within { λ r. ⌜ Counts r (now (out .exit)) ⌝ }
     ensures record { λ r. ⌜ take r (now (out .exit)) ≡ recordOf (now (question .entry)) ⌝ }
 {
-    solver::respond(question, out)
+    solver::write_record(question, out)
 }
 
 // What comes of a slot: how many bytes at the buffer's start are to be written, and whether another slot may follow.

@@ -1,13 +1,13 @@
--- From a question's bytes and an answer buffer to the outcome and the buffer's final bytes; and the record of a question (01). Definitions only.
+-- From a question's bytes and an answer buffer to the outcome and the buffer's final bytes; and the record of a question (01).
+-- Definitions only.
 use Prim.Native.Nat.{ℕ}
 use mathlib.Core.Bool.{Bool, cond}
 use mathlib.Core.List.{List}
 use lib.Dec.{eqb, ltb}
 use lib.ListN.{length}
 use Rattle.little_endian.specs.Bytes.{written}
-use Rattle.records.specs.Records.{questionOf, headBytes, refusalOf, answerBytes}
-use Rattle.records.specs.declared.Question.{Question}
-use Rattle.records.specs.declared.Head.{Head}
+use Rattle.records.specs.Layout.{answerRoom, jobOf, revisionOf}
+use Rattle.records.specs.Records.{refusalBytes, answerBytes}
 use Rattle.entrance.specs.Judge.{firstOf, judgeOf}
 use Rattle.entrance.specs.declared.Problem.{Problem}
 use Rattle.entrance.specs.declared.Judged.{Judged}
@@ -37,43 +37,42 @@ answered p buffer = record {
 unfoldable pub settledOf : Problem → List ℕ → Solved
 settledOf p buffer = let n = firstOf (lateChecks p) in cond (eqb n 0) (answered p buffer) (refused n buffer)
 
-abbrev pub after : Judged → List ℕ → Solved
-after (Refused number) buffer = refused number buffer
-after (Accepted p) buffer = settledOf p buffer
+-- what comes of a question that was judged: the entrance's number, or what comes of its problem
+abbrev pub solvedAfter : Judged → List ℕ → Solved
+solvedAfter (Refused number) buffer = refused number buffer
+solvedAfter (Accepted p) buffer = settledOf p buffer
 
 unfoldable pub solveOf : List ℕ → List ℕ → Solved
-solveOf question buffer = after (judgeOf question (length buffer)) buffer
+solveOf question buffer = solvedAfter (judgeOf question (length buffer)) buffer
 
--- ---- the record of a question, given room for the longest: 16 + 64 * 8 bytes
-abbrev pub longest : ℕ
-longest = 528
+-- ---- the record of a question, given room for the longest
 
--- a refusal's record has the question's job and revision, both 0 where the number is 1
-unfoldable pub refusalFor : List ℕ → ℕ → Head
-refusalFor question n = let q = questionOf question in cond (eqb n 1) (refusalOf 0 0 n) (refusalOf (q .job) (q .revision) n)
-
-abbrev pub refusalBytes : List ℕ → ℕ → List ℕ
-refusalBytes question n = headBytes (refusalFor question n)
+-- the record of a refused question has its job and revision, both 0 where the number is 1
+unfoldable pub refusalRecord : List ℕ → ℕ → List ℕ
+refusalRecord question n =
+    cond (eqb n 1) (refusalBytes 0 0 n) (refusalBytes (jobOf question) (revisionOf question) n)
 
 abbrev pub recordAfter : List ℕ → Judged → List ℕ
-recordAfter question (Refused n) = refusalBytes question n
+recordAfter question (Refused n) = refusalRecord question n
 recordAfter question (Accepted p) =
-    let n = firstOf (lateChecks p) in cond (eqb n 0) (answerBytes (p .job) (p .revision) (entriesOf p)) (refusalBytes question n)
+    let n = firstOf (lateChecks p) in
+    cond (eqb n 0) (answerBytes (p .job) (p .revision) (entriesOf p)) (refusalRecord question n)
 
 unfoldable pub recordOf : List ℕ → List ℕ
-recordOf question = recordAfter question (judgeOf question longest)
+recordOf question = recordAfter question (judgeOf question answerRoom)
 
--- the record laid over a buffer's start, and its length; without room for the longest nothing is written
-pub record Response : Type 0 where
+-- what `write_record` returns, and what the buffer then holds: the record's size, and the record laid over the buffer's start; without
+-- room for the longest answer 0, and the buffer untouched
+pub record Output : Type 0 where
   pub size : ℕ
   pub buffer : List ℕ
 
-unfoldable pub responseOf : List ℕ → List ℕ → Response
-responseOf question buffer =
-    cond (ltb (length buffer) longest) (record { size = 0; buffer = buffer })
+unfoldable pub outputOf : List ℕ → List ℕ → Output
+outputOf question buffer =
+    cond (ltb (length buffer) answerRoom) (record { size = 0; buffer = buffer })
     (record { size = length (recordOf question); buffer = written buffer (recordOf question) })
 
 -- ---- the outcome as one number: that of the refusal, and 0 for an answer
-abbrev pub numberGiven : Outcome → ℕ
-numberGiven (Refused n) = n
-numberGiven (Answered n) = 0
+abbrev pub outcomeNumber : Outcome → ℕ
+outcomeNumber (Refused n) = n
+outcomeNumber (Answered n) = 0

@@ -19,7 +19,8 @@ pub enum Outcome {
 // Judges and solves a question. An answer is written at the buffer's start; a refusal leaves the
 // buffer untouched.
 pub fn solve(question: &[u8], answer: &mut [u8]) -> Outcome
-    ensures { λ r. ⌜ (r ≡ solveOf (now (question .entry)) (now (answer .entry)) .outcome) × (now (answer .exit) ≡ solveOf (now (question .entry)) (now (answer .entry)) .buffer) ⌝ }
+    ensures outcome { λ r. ⌜ r ≡ solveOf (now (question .entry)) (now (answer .entry)) .outcome ⌝ }
+    ensures buffer { λ _. ⌜ now (answer .exit) ≡ solveOf (now (question .entry)) (now (answer .entry)) .buffer ⌝ }
 {
     match entrance::judge(question, answer.len()) {
         Judged::Refused(number) => Outcome::Refused(number),
@@ -29,7 +30,8 @@ pub fn solve(question: &[u8], answer: &mut [u8]) -> Outcome
 
 // Solves a problem that is past the entrance checks.
 fn settle(p: Problem, answer: &mut [u8]) -> Outcome
-    ensures { λ r. ⌜ (r ≡ settledOf p (now (answer .entry)) .outcome) × (now (answer .exit) ≡ settledOf p (now (answer .entry)) .buffer) ⌝ }
+    ensures outcome { λ r. ⌜ r ≡ settledOf p (now (answer .entry)) .outcome ⌝ }
+    ensures buffer { λ _. ⌜ now (answer .exit) ≡ settledOf p (now (answer .entry)) .buffer ⌝ }
 {
     let triangle = p.triangle;
     let search = Search {
@@ -40,11 +42,12 @@ fn settle(p: Problem, answer: &mut [u8]) -> Outcome
     let found = sweep::find_crossings(search);
     let list = found.list;
     let walk = found.walk;
-    let finite = entries::all_finite(p, list, found.count);
+    let listed = entries::entries_of(p, list, found.count);
+    let finite = entries::all_finite(listed, found.count);
     let number = late_number(walk, found.count, finite);
     if number != 0 {
         return Outcome::Refused(number);
     }
-    entries::write_answer(p, list, found.count, answer);
+    entries::write_answer(p.job, p.revision, listed, found.count, answer);
     Outcome::Answered(found.count as u16)
 }

@@ -9,7 +9,7 @@ use Rattle.entrance.specs.declared.Judged.the-variants.{Refused, Accepted}
 use Rattle.flight_time.specs.Time.{placeBits}
 use Rattle.entries.specs.Entries.{placeOf}
 use Rattle.solution.specs.Crossed.{lastStation}
-use Rattle.solution.specs.Solve.{longest}
+use Rattle.records.specs.Layout.{answerRoom}
 
 -- where there is no time: all ones, a choice of ours, as for a void place
 abbrev pub noTime : ℕ
@@ -30,10 +30,10 @@ timeAfter (Accepted p) k = placeBits (placeOf p k)
 
 -- and of its bytes, judged with room for the longest answer
 unfoldable pub wantedBits : List ℕ → ℕ
-wantedBits question = wantedAfter (judgeOf question longest)
+wantedBits question = wantedAfter (judgeOf question answerRoom)
 
 unfoldable pub stationCount : List ℕ → ℕ
-stationCount question = stationsAfter (judgeOf question longest)
+stationCount question = stationsAfter (judgeOf question answerRoom)
 
 unfoldable pub timeBits : List ℕ → ℤ → ℕ
-timeBits question k = timeAfter (judgeOf question longest) k
+timeBits question k = timeAfter (judgeOf question answerRoom) k

@@ -5,9 +5,7 @@ ghost use mathlib.Core.Path.{_≡_};
 ghost use Rattle.stations.specs.Stations.{stationOf};
 ghost use Rattle.solver.specs.Curve.{wantedBits, stationCount, timeBits};
 use entrance::Judged;
-
-// The room that a question is judged with: that of the longest answer.
-const ROOM: usize = 528;
+use records::ANSWER_ROOM;
 
 // What is told where there is no time.
 const NO_TIME: u64 = 0xFFFF_FFFF_FFFF_FFFF;
@@ -16,7 +14,7 @@ const NO_TIME: u64 = 0xFFFF_FFFF_FFFF_FFFF;
 pub extern "C" fn lambert_wanted(question: &[u8]) -> u64
     ensures { λ r. ⌜ r ≡ wantedBits (now (question .entry)) ⌝ }
 {
-    match entrance::judge(question, ROOM) {
+    match entrance::judge(question, ANSWER_ROOM) {
         Judged::Refused(_) => NO_TIME,
         Judged::Accepted(problem) => float64::to_bits(problem.wanted),
     }
@@ -27,7 +25,7 @@ pub extern "C" fn lambert_wanted(question: &[u8]) -> u64
 pub extern "C" fn lambert_stations(question: &[u8]) -> u64
     ensures { λ r. ⌜ r ≡ stationCount (now (question .entry)) ⌝ }
 {
-    match entrance::judge(question, ROOM) {
+    match entrance::judge(question, ANSWER_ROOM) {
         Judged::Refused(_) => 0,
         Judged::Accepted(problem) => stations::last_station(problem.revolutions) as u64 + 1,
     }
@@ -46,7 +44,7 @@ pub extern "C" fn lambert_station(i: u16) -> i64
 pub extern "C" fn lambert_time(question: &[u8], k: i64) -> u64
     ensures { λ r. ⌜ r ≡ timeBits (now (question .entry)) k ⌝ }
 {
-    match entrance::judge(question, ROOM) {
+    match entrance::judge(question, ANSWER_ROOM) {
         Judged::Refused(_) => NO_TIME,
         Judged::Accepted(problem) => flight_time::place_bits(entries::place_at(problem, k)),
     }

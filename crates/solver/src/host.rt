@@ -1,15 +1,16 @@
 // The C interface, for hosts in other languages. A slice is a pointer and a length; the memory of a
 // question and of a buffer must not overlap.
 ghost use mathlib.Core.Path.{_≡_};
-ghost use Rattle.solution.specs.Solve.{numberGiven, solveOf, responseOf};
+ghost use Rattle.solution.specs.Solve.{outcomeNumber, solveOf, outputOf};
 use crate::Outcome;
-use crate::responses::respond;
+use crate::question_record::write_record;
 use crate::solve;
 
 // `solve`, with 0 for an answer and the number of a refusal.
 #[no_mangle]
 pub extern "C" fn lambert_solve(question: &[u8], answer: &mut [u8]) -> u16
-    ensures { λ r. ⌜ (r ≡ numberGiven (solveOf (now (question .entry)) (now (answer .entry)) .outcome)) × (now (answer .exit) ≡ solveOf (now (question .entry)) (now (answer .entry)) .buffer) ⌝ }
+    ensures outcome { λ r. ⌜ r ≡ outcomeNumber (solveOf (now (question .entry)) (now (answer .entry)) .outcome) ⌝ }
+    ensures buffer { λ _. ⌜ now (answer .exit) ≡ solveOf (now (question .entry)) (now (answer .entry)) .buffer ⌝ }
 {
     match solve(question, answer) {
         Outcome::Refused(number) => number,
@@ -17,10 +18,11 @@ pub extern "C" fn lambert_solve(question: &[u8], answer: &mut [u8]) -> u16
     }
 }
 
-// `respond`.
+// `write_record`.
 #[no_mangle]
-pub extern "C" fn lambert_respond(question: &[u8], out: &mut [u8]) -> usize
-    ensures { λ r. ⌜ (r ≡ responseOf (now (question .entry)) (now (out .entry)) .size) × (now (out .exit) ≡ responseOf (now (question .entry)) (now (out .entry)) .buffer) ⌝ }
+pub extern "C" fn lambert_record(question: &[u8], out: &mut [u8]) -> usize
+    ensures size { λ r. ⌜ r ≡ outputOf (now (question .entry)) (now (out .entry)) .size ⌝ }
+    ensures buffer { λ _. ⌜ now (out .exit) ≡ outputOf (now (question .entry)) (now (out .entry)) .buffer ⌝ }
 {
-    respond(question, out)
+    write_record(question, out)
 }

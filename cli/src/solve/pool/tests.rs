@@ -45,7 +45,7 @@ fn slots(count: u32) -> Vec<u8> {
 #[test]
 fn replies_keep_the_order_however_the_bytes_come() {
     let bytes = slots(500);
-    let expected: Vec<u8> = bytes.chunks(SLOT).flat_map(respond).collect();
+    let expected: Vec<u8> = bytes.chunks(SLOT).flat_map(record_of).collect();
     for (step, jobs) in [(1, 3), (81, 2), (82, 1), (83, 8), (100_000, 4)] {
         let input = Drip { bytes: bytes.clone(), at: 0, step, fails: false };
         assert!(all(input, jobs) == (expected.clone(), 500, false), "{step} at a time, {jobs} jobs");

@@ -9,7 +9,7 @@ use Rattle.bisection.specs.declared.Bracket.{Bracket}
 use Rattle.records.specs.Layout.{mostEntries}
 use Rattle.records.specs.declared.Entry.{Entry}
 use Rattle.entries.specs.Entries.{entryFor, places}
-use Rattle.entries.proofs.Lists.{entriesUpTo, places-next, take-cut-count}
+use Rattle.entries.proofs.Lists.{entriesUpTo, places-next, take-cut-count, taken-again}
 use Rattle.entries.proofs.entries_of.Statement.{statement}
 use Rattle.entries.proofs.entries_of.Tie as tie
 
@@ -73,9 +73,12 @@ returns c =
     let cut = at .before in
     let a = cut .before .args in
     let last : at .loop .i ≡ min (a .count) mostEntries = omega (arith, c .loop-test .left, at .loop .inv .0, cut .cut-count .ensures .1) in
+    let long = list-length cut in
+    let whole : at .loop .entries ≡ places (entriesUpTo (a .p) (a .t2) (a .count)) =
     at .loop .inv .1
     ∙ ap (λ (bs : List Bracket). places (map (entryFor (a .p)) bs))
-    (ap (λ (n : ℕ). take n (a .t2)) last ∙ take-cut-count (a .t2) (a .count) (list-length cut))
+    (ap (λ (n : ℕ). take n (a .t2)) last ∙ take-cut-count (a .t2) (a .count) long) in
+    (whole, ap (take (a .count)) whole ∙ taken-again (a .p) (a .t2) (a .count) long)
 
 pub entries-of-spec : {M : Type 1} → statement M
 entries-of-spec =

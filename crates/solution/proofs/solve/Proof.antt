@@ -4,7 +4,7 @@ use mathlib.Core.Path.{_≡_, sym, ap, _∙_}
 use mathlib.Core.List.{List}
 use Rattle.entrance.specs.Judge.{judgeOf}
 use Rattle.entrance.specs.declared.Judged.{Judged}
-use Rattle.solution.specs.Solve.{Solved, after, solveOf}
+use Rattle.solution.specs.Solve.{Solved, solvedAfter, solveOf}
 use Rattle.solution.proofs.solve.Statement.{statement}
 use Rattle.solution.proofs.solve.Tie as tie
 
@@ -23,9 +23,10 @@ settle-requires c κs = tt
 returns : tie.Need-returns
 unfolding solveOf
 returns c =
-    let d = c .before .before .before in
-    let a = d .before .before .before .args in
-    let e = ap (λ (j : Judged). after j (a .answer .now)) (sym (d .judge .ensures) ∙ c .before .number .given .1) in
+    let number = c .before in
+    let judged = number .before .before in
+    let a = judged .before .before .before .args in
+    let e = ap (λ (j : Judged). solvedAfter j (a .answer .now)) (sym (judged .judge .ensures) ∙ number .number .given .1) in
     (sym (ap (λ (s : Solved). s .outcome) e), sym (ap (λ (s : Solved). s .buffer) e))
 
 same-length : tie.Need-same-length
@@ -34,11 +35,13 @@ same-length c = search needs
 returns-2 : tie.Need-returns-2
 unfolding solveOf
 returns-2 c =
-    let d = c .before .before .before .before .before .before .before in
-    let a = d .before .before .before .args in
-    let e = ap (λ (j : Judged). after j (a .answer .now)) (sym (d .judge .ensures) ∙ c .before .before .before .before .before .problem .given .1) in (
-      c .before .before .settle .ensures .0 ∙ sym (ap (λ (s : Solved). s .outcome) e),
-      c .before .before .settle .ensures .1 ∙ sym (ap (λ (s : Solved). s .buffer) e),
+    let settled = c .before .before in
+    let problem = settled .before .before .before in
+    let judged = problem .before .before in
+    let a = judged .before .before .before .args in
+    let e = ap (λ (j : Judged). solvedAfter j (a .answer .now)) (sym (judged .judge .ensures) ∙ problem .problem .given .1) in (
+      settled .settle .ensures .0 ∙ sym (ap (λ (s : Solved). s .outcome) e),
+      settled .settle .ensures .1 ∙ sym (ap (λ (s : Solved). s .buffer) e),
     )
 
 pub solve-spec : {M : Type 1} → statement M

@@ -1,6 +1,6 @@
 -- `lambert_solve` meets its contract: the number of the outcome that `solve` returns.
 use mathlib.Core.Path.{_≡_, sym, ap, _∙_}
-use Rattle.solution.specs.Solve.{numberGiven}
+use Rattle.solution.specs.Solve.{outcomeNumber}
 use borrow.Author.Needs.{needs}
 use Rattle.solver.proofs.host.lambert_solve.Statement.{statement}
 use Rattle.solver.proofs.host.lambert_solve.Tie as tie
@@ -19,16 +19,17 @@ same-length c = search needs
 
 returns : tie.Need-returns
 returns c =
-    let d = c .before .before .before .before .before in
-    (sym (ap numberGiven (sym (d .solve .ensures .0) ∙ c .before .number .given .1)), d .solve .ensures .1)
+    let number = c .before in
+    let solved = number .before .before .before .before in
+    (sym (ap outcomeNumber (sym (solved .solve .ensures .0) ∙ number .number .given .1)), solved .solve .ensures .1)
 
 same-length-2 : tie.Need-same-length-2
 same-length-2 c = search needs
 
 returns-2 : tie.Need-returns-2
 returns-2 c =
-    let d = c .before .before .before .before in
-    (sym (ap numberGiven (sym (d .solve .ensures .0) ∙ c .enum-told .given .1)), d .solve .ensures .1)
+    let solved = c .before .before .before .before in
+    (sym (ap outcomeNumber (sym (solved .solve .ensures .0) ∙ c .enum-told .given .1)), solved .solve .ensures .1)
 
 pub lambert-solve-spec : {M : Type 1} → statement M
 lambert-solve-spec =
