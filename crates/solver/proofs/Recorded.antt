@@ -23,7 +23,8 @@ use Rattle.solution.specs.declared.Outcome.the-variants.{Refused, Answered}
 use Rattle.solution.specs.Crossed.{entriesOf}
 use Rattle.solution.specs.Table.{lateChecks}
 use Rattle.solution.proofs.Numbering.{few, count-is, most-eight}
-use Rattle.solution.specs.Solve.{Solved, refused, answered, settledOf, solvedAfter, solveOf, refusalRecord, recordAfter, recordOf, Output, outputOf}
+use Rattle.solution.specs.Solve.{Solved, refused, answered, settledOf, solvedAfter, solveOf}
+use Rattle.solution.specs.Solve.{refusalRecord, recordAfter, recordOf, Output, outputOf}
 
 -- the verdict on a question is the same for every buffer with room
 pub room-same : (question : List ℕ) (room : ℕ) → answerRoom ≤ room → judgeOf question room ≡ judgeOf question answerRoom
@@ -42,7 +43,8 @@ module _ (question buffer : List ℕ) (n : ℕ) where
 
   answer-row : (p : Problem) (none : Bool) →
       cond none (answered p buffer) (refused (firstOf (lateChecks p)) buffer) .outcome ≡ Answered n →
-      Laid (cond none (answered p buffer) (refused (firstOf (lateChecks p)) buffer)) (cond none (answerBytes (p .job) (p .revision) (entriesOf p)) (refusalRecord question (firstOf (lateChecks p))))
+      Laid (cond none (answered p buffer) (refused (firstOf (lateChecks p)) buffer))
+      (cond none (answerBytes (p .job) (p .revision) (entriesOf p)) (refusalRecord question (firstOf (lateChecks p))))
   answer-row p true e =
       let k : length (entriesOf p) ≡ n = cc e in
       (refl, answer-length (p .job) (p .revision) (entriesOf p) ∙ ap (λ (m : ℕ). answerSize m) k)
@@ -60,7 +62,8 @@ module _ (question buffer : List ℕ) (n : ℕ) where
 
   refusal-row : (p : Problem) (none : Bool) →
       cond none (answered p buffer) (refused (firstOf (lateChecks p)) buffer) .outcome ≡ Refused n →
-      Left (cond none (answered p buffer) (refused (firstOf (lateChecks p)) buffer)) (cond none (answerBytes (p .job) (p .revision) (entriesOf p)) (refusalRecord question (firstOf (lateChecks p))))
+      Left (cond none (answered p buffer) (refused (firstOf (lateChecks p)) buffer))
+      (cond none (answerBytes (p .job) (p .revision) (entriesOf p)) (refusalRecord question (firstOf (lateChecks p))))
   refusal-row p true e = apart (sym e)
   refusal-row p false e = let k : firstOf (lateChecks p) ≡ n = cc e in (refl, ap (refusalRecord question) k)
 
@@ -91,7 +94,8 @@ module _ (question buffer : List ℕ) where
   unfolding outputOf
   no-room h = rw (lt-ltb (length buffer) answerRoom h)
 
-  pub has-room : answerRoom ≤ length buffer → outputOf question buffer ≡ record { size = length (recordOf question); buffer = written buffer (recordOf question) }
+  pub has-room : answerRoom ≤ length buffer
+      → outputOf question buffer ≡ record { size = length (recordOf question); buffer = written buffer (recordOf question) }
   unfolding outputOf
   has-room h = rw (le-ltb (length buffer) answerRoom h)
 
@@ -105,9 +109,11 @@ refusal-record-length question n = by (eqb n 1)
     by false = refusal-length (jobOf question) (revisionOf question) n
 
 -- a record is never longer than the longest answer
-short-row : (question : List ℕ) (p : Problem) (none : Bool) → eqb (firstOf (lateChecks p)) 0 ≡ none → length (cond none (answerBytes (p .job) (p .revision) (entriesOf p)) (refusalRecord question (firstOf (lateChecks p)))) ≤ answerRoom
+short-row : (question : List ℕ) (p : Problem) (none : Bool) → eqb (firstOf (lateChecks p)) 0 ≡ none
+    → length (cond none (answerBytes (p .job) (p .revision) (entriesOf p)) (refusalRecord question (firstOf (lateChecks p)))) ≤ answerRoom
 short-row question p true e =
-    let most : length (entriesOf p) ≤ mostEntries = omega (arith, count-is p (few p (eqb-true (firstOf (lateChecks p)) 0 e)), most-eight p) in
+    let most : length (entriesOf p) ≤ mostEntries =
+    omega (arith, count-is p (few p (eqb-true (firstOf (lateChecks p)) 0 e)), most-eight p) in
     omega (arith, answer-length (p .job) (p .revision) (entriesOf p), most)
 short-row question p false e = omega (arith, refusal-record-length question (firstOf (lateChecks p)))
 

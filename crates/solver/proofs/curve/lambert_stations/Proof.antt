@@ -29,7 +29,10 @@ returns c = simp (sym (c .before .before .judge .ensures), c .enum-told .given .
 
 returns-2 : tie.Need-returns-2
 unfolding stationCount
-returns-2 c = simp (sym (c .before .before .before .before .judge .ensures), c .before .before .problem .given .1, c .last-station .ensures)
+returns-2 c =
+    let problem = c .before .before in
+    let judged = problem .before .before in
+    simp (sym (judged .judge .ensures), problem .problem .given .1, c .last-station .ensures)
 
 pub lambert-stations-spec : {M : Type 1} → statement M
 lambert-stations-spec =

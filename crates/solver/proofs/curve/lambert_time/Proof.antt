@@ -27,7 +27,18 @@ returns c = simp (sym (c .before .before .judge .ensures), c .enum-told .given .
 
 returns-2 : tie.Need-returns-2
 unfolding timeBits
-returns-2 c = simp (sym (c .before .before .before .before .before .judge .ensures), c .before .before .before .problem .given .1, c .place-bits .ensures, c .before .place-at .ensures, toZ-ofZ (c .before .before .before .before .before .before .before .fits .k))
+returns-2 c =
+    let place = c .before in
+    let problem = place .before .before in
+    let judged = problem .before .before in
+    let start = judged .before .before in
+    simp (
+      sym (judged .judge .ensures),
+      problem .problem .given .1,
+      c .place-bits .ensures,
+      place .place-at .ensures,
+      toZ-ofZ (start .fits .k),
+    )
 
 pub lambert-time-spec : {M : Type 1} → statement M
 lambert-time-spec =

@@ -23,7 +23,10 @@ returns c = simp (sym (c .before .before .judge .ensures), c .enum-told .given .
 
 returns-2 : tie.Need-returns-2
 unfolding wantedBits
-returns-2 c = simp (sym (c .before .before .before .before .judge .ensures), c .before .before .problem .given .1, c .to-bits .ensures)
+returns-2 c =
+    let problem = c .before .before in
+    let judged = problem .before .before in
+    simp (sym (judged .judge .ensures), problem .problem .given .1, c .to-bits .ensures)
 
 pub lambert-wanted-spec : {M : Type 1} → statement M
 lambert-wanted-spec =
