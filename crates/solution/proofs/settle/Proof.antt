@@ -86,8 +86,8 @@ none-at c = c .before .before
 abbrev found-at : tie.After-write-answer → tie.After-find-crossings
 found-at c = none-at c .before .before .before .before .before
 
-cast-t14 : tie.Need-cast-t14
-cast-t14 c = omega (arith, count-most (found-at (c .before .before .before)))
+cast-t15 : tie.Need-cast-t15
+cast-t15 c = omega (arith, count-most (found-at (c .before .before .before)))
 
 same-length : tie.Need-same-length
 same-length c = search needs
@@ -123,6 +123,6 @@ settle-spec =
     late-number-requires
     returns
     write-answer-requires
-    cast-t14
+    cast-t15
     same-length
     returns-2)
