@@ -10,7 +10,7 @@ use native.Mathlib.Omega.{arith}
 use borrow.Author.Tests.{eqb-true, eqb-false, ne-eqb}
 use lib.Dec.{eqb, ltb}
 use lib.ListN.{length, length-map}
-use Rattle.records.specs.Layout.{mostEntries, firstNumber, lastNumber}
+use Rattle.records.specs.Layout.{mostEntries, answerRoom, firstNumber, lastNumber, jobOf}
 use Rattle.records.specs.Records.{questionOf, answerBytes}
 use Rattle.records.specs.declared.Entry.{Entry}
 use Rattle.geometry.specs.Triangles.{shapeOf}
@@ -22,12 +22,12 @@ use Rattle.entrance.specs.declared.Judged.{Judged}
 use Rattle.entrance.specs.declared.Judged.the-variants.{Refused, Accepted}
 use Rattle.entrance.proofs.Table.{refused-exactly, accepted-exactly, accepted-problem, only-ten}
 use Rattle.bisection.specs.declared.Bracket.{Bracket}
-use Rattle.crossing_laws.proofs.Theorems.{length-is}
+use Rattle.sweep.proofs.Counts.{length-is}
 use Rattle.entries.specs.Entries.{entryFor}
 use Rattle.entries.proofs.Ends.{entry-names}
-use Rattle.solution.specs.Crossed.{sidesOf, lastStation, bracketsOf, entriesOf}
+use Rattle.solution.specs.Crossed.{sidesOf, gridOf, lastPlace, bracketsOf, entriesOf}
 use Rattle.solution.specs.Table.{crossingCount, anyVoid, allFinite, lateChecks}
-use Rattle.solution.specs.Solve.{longest, refusalFor, refusalBytes, recordAfter, recordOf}
+use Rattle.solution.specs.Solve.{refusalRecord, recordAfter, recordOf}
 use Rattle.solution.proofs.Numbering.{rows, rows-are, few}
 use Rattle.record_laws.specs.RecordForm.{RecordForm, malformed as not-question, refusal, answer}
 
@@ -51,7 +51,7 @@ some-crossing true true ninth finite e = absurd (omega (arith, e))
 module _ (p : Problem) where
   size-is : length (entriesOf p) ≡ crossingCount p
   unfolding entriesOf bracketsOf
-  size-is = length-map (bracketsOf p) (entryFor p) ∙ length-is (sidesOf p) (lastStation p)
+  size-is = length-map (bracketsOf p) (entryFor p) ∙ length-is (sidesOf p) (gridOf p) (lastPlace p)
 
   at-least-one : firstOf (lateChecks p) ≡ 0 → 1 ≤ length (entriesOf p)
   at-least-one e =
@@ -84,17 +84,17 @@ or-true false = refl
 
 module _ (s : List ℕ) where
   -- job 0 is malformed, so that a question past number 1 has another
-  zero-malformed : questionOf s .job ≡ 0 → conditionOf s longest 1 ≡ true
-  unfolding conditionOf appliesIn checks malformed
+  zero-malformed : jobOf s ≡ 0 → conditionOf s answerRoom 1 ≡ true
+  unfolding conditionOf appliesIn checks malformed questionOf
   zero-malformed e = simp (e, or-true)
 
-  past-one : conditionOf s longest 1 ≡ false → 0 < questionOf s .job
+  past-one : conditionOf s answerRoom 1 ≡ false → 0 < jobOf s
   past-one e = lt-of-not-le (λ h. true≢false (sym (zero-malformed (omega (arith, h))) ∙ e))
 
   -- ---- the record
 
-  refusal-form : (n : ℕ) → firstNumber < n → n ≤ lastNumber → 0 < questionOf s .job → RecordForm s (refusalBytes s n)
-  unfolding refusalFor
+  refusal-form : (n : ℕ) → firstNumber < n → n ≤ lastNumber → 0 < jobOf s → RecordForm s (refusalRecord s n)
+  unfolding refusalRecord
   refusal-form n low high job = rw (ne-eqb n 1 (λ e. omega (arith, e, low))) (refusal n low high job)
 
   -- the question's own problem, and the first entrance check that applies
@@ -102,9 +102,9 @@ module _ (s : List ℕ) where
   own = let q = questionOf s in problemOf q (shapeOf (q .r1) (q .r2) (longWay q))
 
   abbrev first-check : ℕ
-  first-check = let q = questionOf s in firstOf (checks (length s) longest q (shapeOf (q .r1) (q .r2) (longWay q)))
+  first-check = let q = questionOf s in firstOf (checks (length s) answerRoom q (shapeOf (q .r1) (q .r2) (longWay q)))
 
-  positive : (n : ℕ) → judgeOf s longest ≡ Refused n → 0 < n
+  positive : (n : ℕ) → judgeOf s answerRoom ≡ Refused n → 0 < n
   unfolding judgeOf
   positive n e = by (eqb first-check 0) refl e
     where
@@ -112,18 +112,18 @@ module _ (s : List ℕ) where
       by true t f = absurd (let z : _≡_ {A = ℕ} 0 1 = cc f in omega (arith, z))
       by false t f = let same : first-check ≡ n = cc f in lt-of-not-le (λ h. eqb-false first-check 0 t (omega (arith, same, h)))
 
-  by-number : (n : ℕ) → judgeOf s longest ≡ Refused n → (one : Bool) → eqb n 1 ≡ one → RecordForm s (refusalBytes s n)
-  unfolding refusalFor
+  by-number : (n : ℕ) → judgeOf s answerRoom ≡ Refused n → (one : Bool) → eqb n 1 ≡ one → RecordForm s (refusalRecord s n)
+  unfolding refusalRecord
   by-number n e true one = rw (eqb-true n 1 one) not-question
   by-number n e false one =
-      let first = refused-exactly s longest n (positive n e) .only e in
+      let first = refused-exactly s answerRoom n (positive n e) .only e in
       let other : n ≡ 1 → ⊥ = eqb-false n 1 one in
       let late : 1 < n = lt-of-not-le (λ h. other (omega (arith, h, positive n e))) in
-      refusal-form n late (omega (arith, only-ten s longest n (first .own) .1)) (past-one (first .none-earlier 1 late))
+      refusal-form n late (omega (arith, only-ten s answerRoom n (first .own) .1)) (past-one (first .none-earlier 1 late))
 
-  by-row : ((n : ℕ) → conditionOf s longest n ≡ false) → (none : Bool) → eqb (firstOf (lateChecks own)) 0 ≡ none →
-      RecordForm s (cond none (answerBytes (own .job) (own .revision) (entriesOf own)) (refusalBytes s (firstOf (lateChecks own))))
-  unfolding problemOf
+  by-row : ((n : ℕ) → conditionOf s answerRoom n ≡ false) → (none : Bool) → eqb (firstOf (lateChecks own)) 0 ≡ none →
+      RecordForm s (cond none (answerBytes (own .job) (own .revision) (entriesOf own)) (refusalRecord s (firstOf (lateChecks own))))
+  unfolding problemOf questionOf
   by-row past true t =
       let none = eqb-true (firstOf (lateChecks own)) 0 t in
       answer (entriesOf own) (at-least-one own none) (at-most-eight own none) (all-name own) (past-one (past 1))
@@ -131,15 +131,15 @@ module _ (s : List ℕ) where
       let number = late-between own (eqb-false (firstOf (lateChecks own)) 0 t) in
       refusal-form (firstOf (lateChecks own)) (number .0) (number .1) (past-one (past 1))
 
-  accepted-form : judgeOf s longest ≡ Accepted own → RecordForm s (recordAfter s (Accepted own))
-  accepted-form e = by-row (accepted-exactly s longest .only e) (eqb (firstOf (lateChecks own)) 0) refl
+  accepted-form : judgeOf s answerRoom ≡ Accepted own → RecordForm s (recordAfter s (Accepted own))
+  accepted-form e = by-row (accepted-exactly s answerRoom .only e) (eqb (firstOf (lateChecks own)) 0) refl
 
-  by-verdict : (j : Judged) → judgeOf s longest ≡ j → RecordForm s (recordAfter s j)
+  by-verdict : (j : Judged) → judgeOf s answerRoom ≡ j → RecordForm s (recordAfter s j)
   by-verdict (Refused n) e = by-number n e (eqb n 1) refl
   by-verdict (Accepted p) e =
-      let is-own : p ≡ own = accepted-problem s longest p e in
+      let is-own : p ≡ own = accepted-problem s answerRoom p e in
       subst (λ (x : Problem). RecordForm s (recordAfter s (Accepted x))) (sym is-own) (accepted-form (e ∙ ap Accepted is-own))
 
   pub record-form : RecordForm s (recordOf s)
   unfolding recordOf
-  record-form = by-verdict (judgeOf s longest) refl
+  record-form = by-verdict (judgeOf s answerRoom) refl

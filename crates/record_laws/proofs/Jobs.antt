@@ -9,7 +9,7 @@ use lib.ListN.{length}
 use Rattle.little_endian.specs.Bytes.{AreBytes, numberAt, bytesOf}
 use Rattle.little_endian.proofs.Numbers.{number-lt}
 use Rattle.records.specs.Layout.{JOB, REVISION, mostEntries, encode, headFields, jobOf, revisionOf}
-use Rattle.records.specs.Records.{questionOf, headOf, headBytes, refusalOf, answerHeadOf, answerBytes}
+use Rattle.records.specs.Records.{headOf, headBytes, refusalHeadOf, refusalBytes, answerHeadOf, answerBytes}
 use Rattle.records.specs.declared.Head.{Head}
 use Rattle.records.specs.declared.Entry.{Entry}
 use Rattle.records.proofs.RoundTrip.{head-back}
@@ -21,23 +21,21 @@ use Rattle.record_laws.specs.RecordForm.{RecordForm, malformed, refusal,
 use Rattle.record_laws.proofs.Forms.{record-form}
 
 zero-job : jobOf notQuestion ≡ 0
-unfolding headBytes refusalOf encode headFields bytesOf numberAt
+unfolding refusalBytes refusalHeadOf headBytes encode headFields bytesOf numberAt
 zero-job = refl
 
 module _ (s : List ℕ) (bytes : AreBytes s) where
   -- the question's job and revision are numbers of four bytes
   abbrev job : ℕ
-  job = questionOf s .job
+  job = jobOf s
 
   abbrev revision : ℕ
-  revision = questionOf s .revision
+  revision = revisionOf s
 
   small-job : job < 2 ^ 32
-  unfolding questionOf
   small-job = number-lt (JOB .width) (JOB .offset) s bytes
 
   small-revision : revision < 2 ^ 32
-  unfolding questionOf
   small-revision = number-lt (REVISION .width) (REVISION .offset) s bytes
 
   -- a record that names the question's own job, which is not 0, and revision
@@ -52,10 +50,10 @@ module _ (s : List ℕ) (bytes : AreBytes s) where
   own-by l h e f g above =
       record { jobIs = ap (λ (x : Head). x .job) e ∙ f; revisionIs = ap (λ (x : Head). x .revision) e ∙ g; above = above }
 
-  refusal-own : (n : ℕ) → n < 2 ^ 16 → 0 < job → Own (headBytes (refusalOf job revision n))
-  unfolding refusalOf
+  refusal-own : (n : ℕ) → n < 2 ^ 16 → 0 < job → Own (refusalBytes job revision n)
+  unfolding refusalBytes refusalHeadOf
   refusal-own n small above =
-      let h = refusalOf job revision n in
+      let h = refusalHeadOf job revision n in
       let held = refusal-held job revision small-job small-revision n small in
       let back : headOf (headBytes h) ≡ h = ap headOf (sym (append-nil (headBytes h))) ∙ head-back h [] held in
       own-by (headBytes h) h back refl refl above

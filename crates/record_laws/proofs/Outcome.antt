@@ -7,12 +7,11 @@ use Prim.Native.Nat.{ℕ}
 use native.Mathlib.Omega.{arith}
 use lib.Dec.{eqb, ltb}
 use lib.ListN.{length}
-use Rattle.records.specs.Layout.{jobOf}
-use Rattle.records.specs.Records.{questionOf}
+use Rattle.records.specs.Layout.{jobOf, revisionOf}
 use Rattle.outcomes.specs.Outcomes.{isOutcome}
 use Rattle.outcomes.proofs.Written.{refusal-outcome, answer-outcome}
 use Rattle.solution.specs.Solve.{recordOf}
-use Rattle.board.specs.Board.{SLOTS, isBoard, heldOn, boardOf, placed, refused, placedOn, postOf}
+use Rattle.board.specs.Board.{SLOTS, isBoard, heldOn, boardOf, placed, boardRefusal, placedOn, postOf}
 use Rattle.board.specs.declared.Posted.the-variants.{Taken, Refused}
 use Rattle.record_laws.specs.RecordForm.{RecordForm, malformed, refusal, answer}
 use Rattle.record_laws.proofs.Forms.{record-form}
@@ -20,8 +19,8 @@ use Rattle.record_laws.proofs.Forms.{record-form}
 form-outcome : (s : List ℕ) {l : List ℕ} → RecordForm s l → isOutcome l ≡ true
 form-outcome s malformed = refusal-outcome 0 0 1 (omega arith) (omega arith)
 form-outcome s (refusal n low high above) =
-    refusal-outcome (questionOf s .job) (questionOf s .revision) n (omega (arith, low)) (omega (arith, high))
-form-outcome s (answer es low high ends above) = answer-outcome (questionOf s .job) (questionOf s .revision) es low high ends
+    refusal-outcome (jobOf s) (revisionOf s) n (omega (arith, low)) (omega (arith, high))
+form-outcome s (answer es low high ends above) = answer-outcome (jobOf s) (revisionOf s) es low high ends
 
 pub record-outcome : (s : List ℕ) → isOutcome (recordOf s) ≡ true
 record-outcome s = form-outcome s (record-form s)
@@ -34,9 +33,9 @@ other-number n other e = let z : n ≡ 1 = cc e in absurd (other z)
 
 module _ (b new : List ℕ) where
   not-b1 : (board formed : Bool) → formed ≡ true → (zero full : Bool) →
-      cond (not board) (refused 0 b)
-      (cond (not formed) (refused 1 b)
-      (cond zero (refused 2 b) (cond full (refused 3 b) (record { posted = Taken; board = boardOf (placed (heldOn b) new) })))) .posted
+      cond (not board) (boardRefusal 0 b)
+      (cond (not formed) (boardRefusal 1 b)
+      (cond zero (boardRefusal 2 b) (cond full (boardRefusal 3 b) (record { posted = Taken; board = boardOf (placed (heldOn b) new) })))) .posted
       ≡ Refused 1 → ⊥
   not-b1 false formed f zero full e = other-number 0 (λ z. omega (arith, z)) e
   not-b1 true true f true full e = other-number 2 (λ z. omega (arith, z)) e

@@ -6,11 +6,11 @@ use Prim.Native.Nat.{ℕ}
 use borrow.Author.Tests.{ne-eqb}
 use lib.ListN.{length}
 use Rattle.records.specs.Layout.{questionSize}
-use Rattle.records.specs.Records.{headBytes, refusalOf}
+use Rattle.records.specs.Records.{refusalBytes}
 use Rattle.entrance.specs.Conditions.{malformed}
 use Rattle.entrance.specs.Judge.{checks, firstOf, judgeOf}
-use Rattle.solution.specs.Solve.{refusalFor, recordOf}
+use Rattle.solution.specs.Solve.{refusalRecord, recordOf}
 
-pub other-size : (s : List ℕ) → (length s ≡ questionSize → ⊥) → recordOf s ≡ headBytes (refusalOf 0 0 1)
-unfolding recordOf judgeOf checks malformed firstOf refusalFor
+pub other-size : (s : List ℕ) → (length s ≡ questionSize → ⊥) → recordOf s ≡ refusalBytes 0 0 1
+unfolding recordOf judgeOf checks malformed firstOf refusalRecord
 other-size s h = rw (ne-eqb (length s) questionSize h)

@@ -1,4 +1,4 @@
--- The whole record of a question: with room for the longest, `respond` leaves it at the buffer's start and returns its length
+-- The whole record of a question: with room for the longest, `write_record` leaves it at the buffer's start and returns its length
 -- (`whole-record`).
 use mathlib.Core.Path.{_≡_, sym, ap, _∙_}
 use mathlib.Core.List.{List, _++_}
@@ -8,20 +8,21 @@ use lib.ListN.{length, take, drop, length-take}
 use lib.Seq.{take-append-seam}
 use Rattle.little_endian.specs.Bytes.{written}
 use Rattle.little_endian.proofs.Laid.{laid}
-use Rattle.solution.specs.Solve.{longest, recordOf, Response, responseOf}
+use Rattle.records.specs.Layout.{answerRoom}
+use Rattle.solution.specs.Solve.{recordOf, Output, outputOf}
 use Rattle.solver.proofs.Recorded.{has-room, record-short}
 
-module _ (question buffer : List ℕ) (room : longest ≤ length buffer) where
+module _ (question buffer : List ℕ) (room : answerRoom ≤ length buffer) where
   -- the record's bytes are the buffer's front, and the rest stays
   pub record-laid : written buffer (recordOf question) ≡ recordOf question ++ drop (length (recordOf question)) buffer
   record-laid = laid buffer (recordOf question) (omega (arith, record-short question, room))
 
-  pub record-size : responseOf question buffer .size ≡ length (recordOf question)
-  record-size = ap (λ (x : Response). x .size) (has-room question buffer room)
+  pub record-size : outputOf question buffer .size ≡ length (recordOf question)
+  record-size = ap (λ (x : Output). x .size) (has-room question buffer room)
 
-  pub record-first : take (length (recordOf question)) (responseOf question buffer .buffer) ≡ recordOf question
+  pub record-first : take (length (recordOf question)) (outputOf question buffer .buffer) ≡ recordOf question
   record-first =
-      ap (λ (x : Response). take (length (recordOf question)) (x .buffer)) (has-room question buffer room)
+      ap (λ (x : Output). take (length (recordOf question)) (x .buffer)) (has-room question buffer room)
       ∙ ap (take (length (recordOf question))) record-laid
       ∙ take-append-seam (recordOf question) (drop (length (recordOf question)) buffer)
 
@@ -32,8 +33,8 @@ pub record Stands (question : List ℕ) (size : ℕ) (buffer : List ℕ) : Type 
   pub counts : size ≡ length (take size buffer)
   pub bytes : take size buffer ≡ recordOf question
 
-pub whole-record : (question buffer : List ℕ) → longest ≤ length buffer → (size : ℕ) (left : List ℕ) →
-    size ≡ responseOf question buffer .size → left ≡ responseOf question buffer .buffer → Stands question size left
+pub whole-record : (question buffer : List ℕ) → answerRoom ≤ length buffer → (size : ℕ) (left : List ℕ) →
+    size ≡ outputOf question buffer .size → left ≡ outputOf question buffer .buffer → Stands question size left
 whole-record question buffer room size left returned leaves =
     let n : size ≡ length (recordOf question) = returned ∙ record-size question buffer room in
     let t : take size left ≡ recordOf question = rw (n, leaves) (record-first question buffer room) in
