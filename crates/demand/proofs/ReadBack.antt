@@ -1,5 +1,5 @@
 -- What an accepted answer holds fits the wire's fields, so that reading it gives back what was written.
--- An entry's lower end lies between two stations, it was halved at most 20 times, and a velocity's components are results of rounded
+-- An entry's lower end lies between two places of the grid, it was halved at most 20 times, and a velocity's components are results of rounded
 -- sums (`entry-held`). The head has the job and the revision of a question that is bytes (`head-held`).
 use mathlib.Core.Path.{_≡_, refl}
 use mathlib.Core.Bool.{Bool, true, false, cond}
@@ -23,12 +23,12 @@ use Rattle.records.specs.Records.{questionOf, answerHeadOf}
 use Rattle.records.specs.Ranges.{VectorHeld, HeadHeld, EntryHeld}
 use Rattle.records.proofs.Reading.{answer-held}
 use Rattle.entrance.specs.declared.Problem.{Problem}
-use Rattle.stations.specs.Stations.{stationOf}
-use Rattle.stations.proofs.Places.{station-room, last-most}
+use Rattle.stations.proofs.Grids.{grid-room}
 use Rattle.crossing_laws.specs.Listed.{Listed}
 use Rattle.velocity.specs.Velocities.{velocityOf, velocitiesOf}
 use Rattle.entries.specs.Entries.{velocitiesAt, velocitiesFor, entryFor}
 use Rattle.entries.proofs.Ends.{entry-names}
+use Rattle.solution.specs.Crossed.{searchOf, gridOf}
 use Rattle.demand.specs.Demand.{Counts, bracketAt, entryAt}
 use Rattle.demand.proofs.Answered.{bracket-of}
 
@@ -79,12 +79,13 @@ module _ (p : Problem) where
   lower-held i c =
       let r = bracketAt p i in
       let b = bracket-of p i c in
-      let between : mag (r .lower) ≤ mag (stationOf i) + mag (stationOf (i + 1)) =
-      mag-between (stationOf i) (r .lower) (r .upper) (stationOf (i + 1)) _ _ _ (b .lowerIs) (b .width) (b .upperIs) in
-      let last = last-most (p .revolutions) in
-      let low = station-room i (omega (arith, c .within, last)) in
-      let high = station-room (i + 1) (omega (arith, c .within, last)) in
-      record { sfits = omega (arith, between, low, high) }
+      let low = gridOf p .place i in
+      let high = gridOf p .place (i + 1) in
+      let between : mag (r .lower) ≤ mag low + mag high =
+      mag-between low (r .lower) (r .upper) high _ _ _ (b .lowerIs) (b .width) (b .upperIs) in
+      let low-room = grid-room (searchOf p) i (omega (arith, c .within)) in
+      let high-room = grid-room (searchOf p) (i + 1) (omega (arith, c .within)) in
+      record { sfits = omega (arith, between, low-room, high-room) }
 
   pub entry-held : (i : ℕ) → Counts p i → EntryHeld (entryAt p i)
   unfolding entryFor velocitiesFor velocitiesAt velocitiesOf
