@@ -42,7 +42,8 @@ module _ (value rest : ℕ) where
   by-value true e is = absurd (let z : _≡_ {A = ℕ} 0 1 = cc is in omega (arith, z))
   by-value false e is = omega (arith, same-rest is, ltb-false longestRest value e)
 
-  by-length : (short : Bool) → cond short (Record 0) (cond (ltb longestRest value) NoRecord (Record value)) ≡ Record rest → rest ≤ longestRest
+  by-length : (short : Bool) →
+      cond short (Record 0) (cond (ltb longestRest value) NoRecord (Record value)) ≡ Record rest → rest ≤ longestRest
   by-length true is = omega (arith, same-rest is)
   by-length false is = by-value (ltb longestRest value) refl is
 

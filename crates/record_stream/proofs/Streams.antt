@@ -59,10 +59,16 @@ no-records = no-more 0
 pub by-first : (input : List ℕ) → streamOf input ≡ streamFrom (startIn input) input streamOf
 unfolding streamOf streamIn startOf
 by-first [] = refl
-by-first (b ∷ bs) = later-same (startIn (b ∷ bs)) b bs (streamIn (length bs)) streamOf (λ input l. enough (length bs) (length input) input l (omega arith))
+by-first (b ∷ bs) =
+    later-same (startIn (b ∷ bs)) b bs (streamIn (length bs)) streamOf
+    (λ input l. enough (length bs) (length input) input l (omega arith))
+
+-- a record, and then a stream
+abbrev pub followedBy : List ℕ → Stream → Stream
+followedBy message later = record { records = message ∷ later .records; whole = later .whole }
 
 pub record-first : (message rest : List ℕ) → length message ≡ LENGTH .width + valueOf LENGTH message → length message ≤ answerRoom →
-    streamOf (message ++ rest) ≡ record { records = message ∷ streamOf rest .records; whole = streamOf rest .whole }
+    streamOf (message ++ rest) ≡ followedBy message (streamOf rest)
 record-first message rest sized fits =
     let head = take (LENGTH .width) message in
     let four : length head ≡ LENGTH .width = length-take-le (LENGTH .width) message (omega (arith, sized)) in
@@ -73,15 +79,17 @@ record-first message rest sized fits =
     ∙ ap Record value in
     by-first (message ++ rest) ∙ ap (λ (s : Start). streamFrom s (message ++ rest) streamOf) start ∙ seam
   where
-    seam : streamFrom (Record (valueOf LENGTH message)) (message ++ rest) streamOf ≡ record { records = message ∷ streamOf rest .records; whole = streamOf rest .whole }
+    seam : streamFrom (Record (valueOf LENGTH message)) (message ++ rest) streamOf ≡ followedBy message (streamOf rest)
     seam =
-        let front : take (LENGTH .width + valueOf LENGTH message) (message ++ rest) ≡ message = rw (sym sized) (take-append-seam message rest) in
-        let behind : drop (LENGTH .width + valueOf LENGTH message) (message ++ rest) ≡ rest = rw (sym sized) (drop-append-seam message rest) in
+        let size = LENGTH .width + valueOf LENGTH message in
+        let front : take size (message ++ rest) ≡ message = rw (sym sized) (take-append-seam message rest) in
+        let behind : drop size (message ++ rest) ≡ rest = rw (sym sized) (drop-append-seam message rest) in
         rw (front, behind)
 
 -- ---- the steps make the whole
 
-by-start : (start : Start) (board input : List ℕ) → streamOf input ≡ streamFrom start input streamOf → boardAfter board input ≡ boardStep start board input
+by-start : (start : Start) (board input : List ℕ) → streamOf input ≡ streamFrom start input streamOf →
+    boardAfter board input ≡ boardStep start board input
 unfolding boardAfter postAll
 by-start End board input is = rw is refl
 by-start NoRecord board input is = rw is refl

@@ -46,13 +46,15 @@ unfolding recordsOf slotsOf slotsIn recordsFor
 empty-input = refl
 
 -- some bytes: the record of the first slot, and then those of what follows it
-slot-first : (input : List ℕ) → 0 < length input → recordsOf input ≡ recordOf (take questionSize input) ++ recordsOf (drop questionSize input)
+slot-first : (input : List ℕ) → 0 < length input →
+    recordsOf input ≡ recordOf (take questionSize input) ++ recordsOf (drop questionSize input)
 unfolding recordsOf slotsOf slotsIn recordsFor
 slot-first [] h = absurd (omega (arith, h))
 slot-first (b ∷ bs) h =
     let rest = drop questionSize (b ∷ bs) in
     let less : length rest ≤ length bs = omega (arith, length-drop questionSize (b ∷ bs)) in
-    ap (λ (l : List (List ℕ)). recordOf (take questionSize (b ∷ bs)) ++ recordsFor l) (enough (length bs) (length rest) rest less (omega arith))
+    let same = enough (length bs) (length rest) rest less (omega arith) in
+    ap (λ (l : List (List ℕ)). recordOf (take questionSize (b ∷ bs)) ++ recordsFor l) same
 
 pub question-first : (question rest : List ℕ) → length question ≡ questionSize →
     recordsOf (question ++ rest) ≡ recordOf question ++ recordsOf rest

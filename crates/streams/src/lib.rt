@@ -11,8 +11,8 @@ pub enum Got {
 
 // What a read's answer says. A failed read is not the end of the input, which is a count of 0.
 fn got_by(answer: isize, part: &[u8]) -> Got
-    ensures { λ r. ⌜ r ≡ gotOf answer (now (part .entry)) ⌝ }
-    ensures { λ r. ⌜ Within (now (part .entry)) r ⌝ }
+    ensures got { λ r. ⌜ r ≡ gotOf answer (now (part .entry)) ⌝ }
+    ensures within { λ r. ⌜ Within (now (part .entry)) r ⌝ }
 {
     if answer < 0 {
         Got::Failed

@@ -23,7 +23,9 @@ within c =
     rest-within _ (round .before .before .args .piece .now) (round .loop .at) (r .result) (round .loop .inv) (r .ensures)
 
 add-at : tie.Need-add-at Inv-loop μ-loop
-add-at c = let round = c .before .before .before .before .before .before .before in omega (arith, within c, round .before .before .good .1 .0)
+add-at c =
+    let round = c .before .before .before .before .before .before .before in
+    omega (arith, within c, round .before .before .good .1 .0)
 
 answer-step-requires : tie.Need-answer-step-requires Inv-loop μ-loop
 answer-step-requires c κs = question-fits _ _ _ (c .before .before .read .ensures)

@@ -37,7 +37,8 @@ returns-2 : tie.Need-returns-2
 returns-2 c =
     let a = c .before .before .before in
     let back = toZ-ofZ w64 (a .args .answer) (a .fits .answer) in
-    (ap Bytes (rw back at (c .count .ensures .1)) ∙ by-count (a .args .answer) (a .args .part .now) (rw back at (c .before .if1 .left)), c .count .ensures .0 .0)
+    let counted = by-count (a .args .answer) (a .args .part .now) (rw back at (c .before .if1 .left)) in
+    (ap Bytes (rw back at (c .count .ensures .1)) ∙ counted, c .count .ensures .0 .0)
 
 pub got-by-spec : {M : Type 1} → statement M
 got-by-spec = tie.close (tie.spec count-requires returns returns-2)
