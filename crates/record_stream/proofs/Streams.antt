@@ -1,6 +1,6 @@
 -- The records of an input, said without their count: none of an empty one (`no-records`), and a record that is as long as its
 -- length says comes before those of what follows it (`record-first`). And the steps make the whole: by what stands first, the
--- board so far is written, or nothing, or the record is posted and the rest of the input follows (`by-steps`).
+-- board so far is written, or nothing, or the record is posted and the rest of the input follows (`board-by-steps`).
 use mathlib.Core.Path.{_≡_, refl, sym, ap, _∙_}
 use mathlib.Core.Bool.{Bool, true, false, cond}
 use mathlib.Core.List.{List, [], _∷_, _++_}
@@ -95,5 +95,5 @@ by-start End board input is = rw is refl
 by-start NoRecord board input is = rw is refl
 by-start (Record rest) board input is = rw is refl
 
-pub by-steps : (board input : List ℕ) → boardAfter board input ≡ boardStep (startIn input) board input
-by-steps board input = by-start (startIn input) board input (by-first input)
+pub board-by-steps : (board input : List ℕ) → boardAfter board input ≡ boardStep (startIn input) board input
+board-by-steps board input = by-start (startIn input) board input (by-first input)

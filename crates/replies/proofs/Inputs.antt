@@ -1,6 +1,6 @@
 -- The records of a whole input, said without the count of its slots: nothing for an empty one (`empty-input`); a whole question's
 -- record, and then those of what follows it (`question-first`); number 1 for a short last slot (`short-last`). And the steps
--- make the whole: what one slot gives, and then, where another may follow, the records of the rest (`by-steps`).
+-- make the whole: what one slot gives, and then, where another may follow, the records of the rest (`records-by-steps`).
 use mathlib.Core.Path.{_≡_, refl, sym, ap, _∙_}
 use mathlib.Core.Bool.{Bool, true, false, cond}
 use mathlib.Core.List.{List, [], _∷_, _++_, append-nil}
@@ -100,10 +100,10 @@ module _ (input : List ℕ) (some : 0 < length input) where
       let other = ne-eqb (length input) questionSize (λ e. omega (arith, e, h)) in
       rw (all, other, record-is) (one-slot input some (omega arith) ∙ sym (append-nil (recordOf input)))
 
-pub by-steps : (input : List ℕ) → Steps input
+pub records-by-steps : (input : List ℕ) → Steps input
 unfolding slotReply
-by-steps [] = empty-input ∙ sym (ap (λ (s : List ℕ). s ++ []) (none-came [] refl))
-by-steps (b ∷ bs) = by (leb questionSize (length (b ∷ bs))) refl
+records-by-steps [] = empty-input ∙ sym (ap (λ (s : List ℕ). s ++ []) (none-came [] refl))
+records-by-steps (b ∷ bs) = by (leb questionSize (length (b ∷ bs))) refl
   where
     by : (whole : Bool) → leb questionSize (length (b ∷ bs)) ≡ whole → Steps (b ∷ bs)
     by true e = whole-slot (b ∷ bs) (omega arith) (leb-true questionSize (length (b ∷ bs)) e)
