@@ -3,7 +3,6 @@ ghost use mathlib.Core.Path.{_≡_};
 ghost use Rattle.board.specs.Board.{postOf};
 
 mod checks;
-mod host;
 mod moves;
 
 use checks::is_board;

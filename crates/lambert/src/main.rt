@@ -7,7 +7,7 @@ ghost use Rattle.records.specs.Layout.{questionSize};
 use libc::STDOUT_FILENO;
 use records::ANSWER_ROOM;
 use records::QUESTION_ROOM;
-use streams::Got;
+use standard_input::Got;
 
 // A proved loop has to end, and nothing says that the input does: the count is one that no input reaches.
 fn main() {
@@ -20,7 +20,7 @@ fn main() {
 // Reads one slot and answers it, and returns whether another may follow: none does after a failure.
 fn answer_one() -> bool {
     let mut slot = [0u8; QUESTION_ROOM];
-    match streams::fill(&mut slot) {
+    match standard_input::fill(&mut slot) {
         Got::Bytes(n) => answer(&slot[..n]),
         Got::Failed => {
             os::fail(b"lambert: standard input cannot be read");
@@ -34,7 +34,7 @@ fn answer(came: &[u8]) -> bool
     ensures { λ r. ⌜ (r ≡ true → length (now (came .entry)) ≡ questionSize) ⌝ }
 {
     let mut out = [0u8; ANSWER_ROOM];
-    let reply = replies::answer_slot(came, &mut out);
+    let reply = slot_records::answer_slot(came, &mut out);
     let size = reply.size;
     if io::write_all(STDOUT_FILENO, &out[..size]) {
         return reply.another;

@@ -14,7 +14,7 @@ use link_reader::Step;
 use little_endian::u16_at;
 use records::ANSWER_ROOM;
 use records::QUESTION_ROOM;
-use streams::Got;
+use standard_input::Got;
 
 // The longest piece.
 const LONGEST: usize = 65535;
@@ -77,7 +77,7 @@ fn read_piece(reader: Reader, bytes: &mut [u8]) -> Fed
 
 fn read_size() -> Size {
     let mut head = [0u8; 2];
-    match streams::fill(&mut head) {
+    match standard_input::fill(&mut head) {
         Got::Bytes(n) => size_of(&head, n),
         Got::Failed => Size::Failed,
     }
@@ -99,7 +99,7 @@ fn size_of(head: &[u8], n: usize) -> Size {
 fn read_bytes(reader: Reader, bytes: &mut [u8], size: usize) -> Fed
     requires { ⌜ size ≤ length (now bytes) ⌝ }
 {
-    match streams::fill(&mut bytes[..size]) {
+    match standard_input::fill(&mut bytes[..size]) {
         Got::Bytes(n) => {
             let fed = feed(reader, &bytes[..n]);
             if n < size { cut_short(fed) } else { fed }
@@ -199,7 +199,7 @@ fn answer_first(bytes: &[u8], n: usize) -> bool
 // Writes the record of a question, and answers whether it could be written.
 fn answer(question: &[u8]) -> bool {
     let mut out = [0u8; ANSWER_ROOM];
-    let n = replies::record_of(question, &mut out);
+    let n = slot_records::record_of(question, &mut out);
     if io::write_all(STDOUT_FILENO, &out[..n]) {
         return true;
     }

@@ -14,8 +14,8 @@ use record_stream::REASON_ROOM;
 use record_stream::Start;
 use records::ANSWER_ROOM;
 use records::LENGTH_SIZE;
+use standard_input::Got;
 use std::num::wrapping_add_u64;
-use streams::Got;
 
 // Where the next record starts, that there is none, or that the rest cannot be read.
 enum Next {
@@ -58,7 +58,7 @@ fn post_all(board: &mut [u8]) -> bool {
 fn post_next(board: &mut [u8], bytes: &mut [u8], place: u64) -> Next
     requires { ⌜ length (now bytes) ≡ answerRoom ⌝ }
 {
-    match streams::fill(&mut bytes[..LENGTH_SIZE]) {
+    match standard_input::fill(&mut bytes[..LENGTH_SIZE]) {
         Got::Failed => cannot_read(),
         Got::Bytes(n) => post_after(board, bytes, n, place),
     }
@@ -86,7 +86,7 @@ fn post_rest(board: &mut [u8], bytes: &mut [u8], n: usize, rest: usize, place: u
     requires rest { ⌜ rest ≤ longestRest ⌝ }
 {
     let end = n + rest;
-    match streams::fill(&mut bytes[n..end]) {
+    match standard_input::fill(&mut bytes[n..end]) {
         Got::Failed => cannot_read(),
         Got::Bytes(more) => {
             let size = n + more;

@@ -10,6 +10,7 @@ use native.Mathlib.Omega.{arith}
 use borrow.Author.Tests.{eqb-true, eqb-false, ne-eqb}
 use lib.Dec.{eqb, ltb}
 use lib.ListN.{length, length-map}
+use Rattle.question_record.specs.Record.{refusalRecord, recordAfter, recordOf}
 use Rattle.records.specs.Layout.{mostEntries, answerRoom, firstNumber, lastNumber, jobOf}
 use Rattle.records.specs.Records.{questionOf, answerBytes}
 use Rattle.records.specs.declared.Entry.{Entry}
@@ -25,10 +26,9 @@ use Rattle.bisection.specs.declared.Bracket.{Bracket}
 use Rattle.sweep.proofs.Counts.{length-is}
 use Rattle.entries.specs.Entries.{entryFor}
 use Rattle.entries.proofs.Ends.{entry-names}
-use Rattle.solution.specs.Crossed.{sidesOf, gridOf, lastPlace, bracketsOf, entriesOf}
-use Rattle.solution.specs.Table.{crossingCount, anyVoid, allFinite, lateChecks}
-use Rattle.solution.specs.Solve.{refusalRecord, recordAfter, recordOf}
-use Rattle.solution.proofs.Numbering.{rows, rows-are, few}
+use Rattle.solver.specs.Crossed.{sidesOf, gridOf, lastPlace, bracketsOf, entriesOf}
+use Rattle.solver.specs.Table.{crossingCount, anyVoid, allFinite, lateChecks}
+use Rattle.solver.proofs.Numbering.{rows, rows-are, few}
 use Rattle.record_laws.specs.RecordForm.{RecordForm, malformed as not-question, refusal, answer}
 
 -- ---- the rows 11 to 14

@@ -6,6 +6,7 @@ use mathlib.Core.List.{List, [], append-nil}
 use Prim.Native.Nat.{ℕ, _^_, _≤_, _<_}
 use native.Mathlib.Omega.{arith}
 use lib.ListN.{length}
+use Rattle.question_record.specs.Record.{recordOf}
 use Rattle.little_endian.specs.Bytes.{AreBytes, numberAt, bytesOf}
 use Rattle.little_endian.proofs.Numbers.{number-lt}
 use Rattle.records.specs.Layout.{JOB, REVISION, mostEntries, encode, headFields, jobOf, revisionOf}
@@ -16,7 +17,6 @@ use Rattle.records.proofs.RoundTrip.{head-back}
 use Rattle.records.proofs.Answers.{answer-head-back}
 use Rattle.records.proofs.Reading.{refusal-held, answer-held}
 use Rattle.entrance.specs.Table.{Exactly}
-use Rattle.solution.specs.Solve.{recordOf}
 use Rattle.record_laws.specs.RecordForm.{RecordForm, malformed, refusal, answer, notQuestion, JobNamed}
 use Rattle.record_laws.proofs.Forms.{record-form}
 

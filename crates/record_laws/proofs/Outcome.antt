@@ -7,10 +7,10 @@ use Prim.Native.Nat.{ℕ}
 use native.Mathlib.Omega.{arith}
 use lib.Dec.{eqb, ltb}
 use lib.ListN.{length}
+use Rattle.question_record.specs.Record.{recordOf}
 use Rattle.records.specs.Layout.{jobOf, revisionOf}
 use Rattle.outcomes.specs.Outcomes.{isOutcome}
 use Rattle.outcomes.proofs.Written.{refusal-outcome, answer-outcome}
-use Rattle.solution.specs.Solve.{recordOf}
 use Rattle.board.specs.Board.{SLOTS, isBoard, heldOn, boardOf, placed, boardRefusal, placedOn, postOf}
 use Rattle.board.specs.declared.Posted.the-variants.{Taken, Refused}
 use Rattle.record_laws.specs.RecordForm.{RecordForm, malformed, refusal, answer}

@@ -4,11 +4,11 @@ use mathlib.Core.Path.{_≡_}
 use mathlib.Core.List.{List, List·Memᴰ}
 use Prim.Native.Nat.{ℕ, _≤_, _<_}
 use lib.ListN.{length}
+use Rattle.question_record.specs.Record.{recordOf}
 use Rattle.records.specs.Layout.{mostEntries, jobOf, revisionOf, firstNumber, lastNumber}
 use Rattle.records.specs.Records.{refusalBytes, answerBytes}
 use Rattle.records.specs.declared.Entry.{Entry}
 use Rattle.entrance.specs.Table.{Exactly}
-use Rattle.solution.specs.Solve.{recordOf}
 
 -- the refusal of number 1: the bytes are not a question, and it names no job
 abbrev pub notQuestion : List ℕ

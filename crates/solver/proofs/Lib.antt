@@ -1,3 +1,1 @@
-pub mod Recorded
-pub mod WholeRecord
-pub mod OtherSizes
+pub mod Numbering

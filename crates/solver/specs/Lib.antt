@@ -1,1 +1,4 @@
-pub mod Curve
+pub mod Crossed
+pub mod Table
+pub mod Internals
+pub mod Solve

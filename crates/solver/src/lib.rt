@@ -1,8 +1,53 @@
-// The record of a question, and the C interface: to solve a question, and to draw its curve.
-mod curve;
-mod host;
-mod question_record;
+// A question's bytes to its answer or its refusal (01): the entrance checks, the sweep, and for each
+// crossing its bracket, the chosen end and the velocities there.
+ghost use mathlib.Core.Path.{_≡_};
+ghost use Rattle.solver.specs.Solve.{settledOf, solveOf};
 
-pub use question_record::write_record;
-pub use solution::Outcome;
-pub use solution::solve;
+mod numbers;
+
+use entrance::Judged;
+use entrance::Problem;
+use numbers::late_number;
+use stations::Search;
+
+// What comes of a question: the number of its refusal, or how many entries its answer has.
+pub enum Outcome {
+    Refused(u16),
+    Answered(u16),
+}
+
+// Judges and solves a question. An answer is written at the buffer's start; a refusal leaves the
+// buffer untouched.
+pub fn solve(question: &[u8], answer: &mut [u8]) -> Outcome
+    ensures outcome { λ r. ⌜ r ≡ solveOf (now (question .entry)) (now (answer .entry)) .outcome ⌝ }
+    ensures buffer { λ _. ⌜ now (answer .exit) ≡ solveOf (now (question .entry)) (now (answer .entry)) .buffer ⌝ }
+{
+    match entrance::judge(question, answer.len()) {
+        Judged::Refused(number) => Outcome::Refused(number),
+        Judged::Accepted(problem) => settle(problem, answer),
+    }
+}
+
+// Solves a problem that is past the entrance checks.
+fn settle(p: Problem, answer: &mut [u8]) -> Outcome
+    ensures outcome { λ r. ⌜ r ≡ settledOf p (now (answer .entry)) .outcome ⌝ }
+    ensures buffer { λ _. ⌜ now (answer .exit) ≡ settledOf p (now (answer .entry)) .buffer ⌝ }
+{
+    let triangle = p.triangle;
+    let search = Search {
+        triangle,
+        revolutions: p.revolutions,
+        wanted: p.wanted,
+    };
+    let found = sweep::find_crossings(search);
+    let list = found.list;
+    let walk = found.walk;
+    let listed = entries::entries_of(p, list, found.count);
+    let finite = entries::all_finite(listed, found.count);
+    let number = late_number(walk, found.count, finite);
+    if number != 0 {
+        return Outcome::Refused(number);
+    }
+    entries::write_answer(p.job, p.revision, listed, found.count, answer);
+    Outcome::Answered(found.count as u16)
+}

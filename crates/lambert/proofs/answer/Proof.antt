@@ -8,8 +8,8 @@ use Prim.Native.Nat.{ℕ}
 use native.Mathlib.Omega.{arith}
 use lib.ListN.{length}
 use Rattle.records.specs.Layout.{questionSize}
-use Rattle.replies.specs.declared.SlotReply.{SlotReply}
-use Rattle.replies.specs.Inputs.{slotReply}
+use Rattle.slot_records.specs.declared.SlotReply.{SlotReply}
+use Rattle.slot_records.specs.Inputs.{slotReply}
 use Rattle.lambert.proofs.answer.Statement.{statement}
 use Rattle.lambert.proofs.answer.Tie as tie
 

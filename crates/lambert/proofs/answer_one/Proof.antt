@@ -4,7 +4,7 @@ use mathlib.Core.Path.{sym, subst}
 use Prim.Native.Nat.{_≤_}
 use lib.ListN.{length}
 use lib.Seq.{length-take-le}
-use Rattle.streams.specs.Got.{Within}
+use Rattle.standard_input.specs.Got.{Within}
 use Rattle.lambert.proofs.answer_one.Statement.{statement}
 use Rattle.lambert.proofs.answer_one.Tie as tie
 

@@ -5,7 +5,7 @@ use Prim.Native.Nat.{_≤_}
 use native.Mathlib.Omega.{arith}
 use lib.ListN.{length, take, drop, length-append}
 use lib.Seq.{length-take-le}
-use Rattle.streams.specs.Got.{Within}
+use Rattle.standard_input.specs.Got.{Within}
 use borrow.Author.Needs.{needs}
 use Rattle.link.proofs.read_bytes.Statement.{statement}
 use Rattle.link.proofs.read_bytes.Tie as tie

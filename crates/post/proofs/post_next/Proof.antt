@@ -6,7 +6,7 @@ use borrow.Author.Needs.{needs}
 use lib.ListN.{length, take, drop, length-append, length-drop}
 use lib.Seq.{length-take-le}
 use Rattle.records.specs.Layout.{LENGTH}
-use Rattle.streams.specs.Got.{Within}
+use Rattle.standard_input.specs.Got.{Within}
 use Rattle.post.proofs.post_next.Statement.{statement}
 use Rattle.post.proofs.post_next.Tie as tie
 

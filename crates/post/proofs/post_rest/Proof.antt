@@ -7,7 +7,7 @@ use borrow.Rule.Slice.PartMut.{putMid, mid-len, same-len-mid}
 use lib.ListN.{length}
 use lib.Seq.{length-take-le}
 use Rattle.records.specs.Layout.{answerRoom}
-use Rattle.streams.specs.Got.{Within}
+use Rattle.standard_input.specs.Got.{Within}
 use Rattle.post.proofs.post_rest.Statement.{statement}
 use Rattle.post.proofs.post_rest.Tie as tie
 

@@ -1,0 +1,102 @@
+-- 01's worked refusal posted on the empty board, and then another record of its job and revision: what is given, and
+-- every byte of both boards. A board is too long to be computed, so `next-board` computes with what it holds.
+use mathlib.Core.Path.{_≡_, refl, _∙_}
+use mathlib.Core.Bool.{Bool, true, _&&_}
+use mathlib.Core.List.{List, [], _∷_, _++_, append-assoc}
+use Prim.Native.Nat.{ℕ, zero, suc, _+_, _-_, _*_, _≤_}
+use native.Mathlib.Omega.{arith}
+use borrow.Author.Tests.{ltb-true, le-ltb}
+use lib.Dec.{ltb}
+use lib.ListN.{length, replicate-append-replicate}
+use Rattle.little_endian.specs.Bytes.{AreBytes, bytesOf, numberAt}
+use Rattle.records.specs.Records.{conflictBytes}
+use Rattle.records.specs.Layout.{encode, answerRoom, conflictFields}
+use Rattle.outcomes.specs.Outcomes.{isSized, isRefusal, isOutcome}
+use Rattle.slots.specs.Slots.{sameBytes}
+use Rattle.slots.proofs.Padding.{padded-is}
+use Rattle.slots.proofs.Zeros.{both}
+use Rattle.board.specs.declared.Posted.the-variants.{Taken}
+use Rattle.board.specs.Board.{SLOTS, boardSize, isBoard, heldOn, boardOf, emptyBoard, joined, placed, placedOn, postOf}
+use Rattle.arrival_laws.specs.Messages.{Postable}
+use Rattle.board.proofs.Boards.{zeros, slotsIn, slots-next, slots-none}
+use Rattle.arrival_laws.proofs.Posting.{judged, taken-board, starts-board}
+
+-- ---- the bytes of a board with one slot filled
+
+unfoldable pub alone : List ℕ → List ℕ
+alone c = c ++ zeros (boardSize - length c)
+
+slots-alone : (n : ℕ) (c : List ℕ) → length c ≤ answerRoom → slotsIn (suc n) (c ∷ []) ≡ c ++ zeros (suc n * answerRoom - length c)
+slots-alone n c h =
+    let sum : answerRoom - length c + n * answerRoom ≡ suc n * answerRoom - length c = omega arith in
+    slots-next n c [] ∙ rw (slots-none n, padded-is answerRoom c h, append-assoc, replicate-append-replicate, sum)
+
+board-alone : (c : List ℕ) → length c ≤ answerRoom → boardOf (c ∷ []) ≡ alone c
+unfolding boardOf slotsIn alone
+board-alone c h = slots-alone (SLOTS - 1) c h
+
+-- ---- a record on a board that holds these
+
+areBytes : List ℕ → Bool
+areBytes [] = true
+areBytes (x ∷ xs) = ltb x 256 && areBytes xs
+
+are-bytes : (m : List ℕ) → areBytes m ≡ true → AreBytes m
+unfolding areBytes
+are-bytes [] e i = omega arith
+are-bytes (x ∷ xs) e zero = ltb-true x 256 (both (ltb x 256) (areBytes xs) e .0)
+are-bytes (x ∷ xs) e (suc i) = are-bytes xs (both (ltb x 256) (areBytes xs) e .1) i
+
+record Holding (b : List ℕ) (held : List (List ℕ)) : Type 0 where
+  board : isBoard b ≡ true
+  these : heldOn b ≡ held
+
+record Next (b new : List ℕ) (after : List (List ℕ)) : Type 0 where
+  given : postOf b new ≡ record { posted = Taken; board = boardOf after }
+  holding : Holding (boardOf after) after
+
+next-board : (b new : List ℕ) (held : List (List ℕ)) → Holding b held → areBytes new ≡ true → Postable new
+    → length (placed held new) ≤ SLOTS → Next b new (placed held new)
+unfolding placedOn
+next-board b new held on bytes postable room =
+    let room : length (placed (heldOn b) new) ≤ SLOTS = rw (on .these) room in
+    let t = taken-board b new (are-bytes new bytes) (on .board) postable room in
+    rw (← on .these)
+    (record {
+      given = judged b new (on .board) postable ∙ rw (le-ltb SLOTS (length (placed (heldOn b) new)) room);
+      holding = record { board = t .0; these = t .1 };
+    })
+
+-- ---- the cases
+
+-- refusals of job 7, revision 2: 01's, with number 11, and one with number 9; and the conflict that they make
+abbrev pub worked : List ℕ
+worked = 0x0C ∷ 0 ∷ 0 ∷ 0 ∷ 3 ∷ 0 ∷ 7 ∷ 0 ∷ 0 ∷ 0 ∷ 2 ∷ 0 ∷ 0 ∷ 0 ∷ 0x0B ∷ 0 ∷ []
+
+abbrev pub another : List ℕ
+another = 0x0C ∷ 0 ∷ 0 ∷ 0 ∷ 3 ∷ 0 ∷ 7 ∷ 0 ∷ 0 ∷ 0 ∷ 2 ∷ 0 ∷ 0 ∷ 0 ∷ 9 ∷ 0 ∷ []
+
+abbrev pub clash : List ℕ
+clash = 0x0A ∷ 0 ∷ 0 ∷ 0 ∷ 4 ∷ 0 ∷ 7 ∷ 0 ∷ 0 ∷ 0 ∷ 2 ∷ 0 ∷ 0 ∷ 0 ∷ []
+
+first : Next emptyBoard worked (worked ∷ [])
+unfolding placed areBytes isOutcome isRefusal isSized numberAt
+first =
+    next-board emptyBoard worked [] (record { board = starts-board .0; these = starts-board .1 }) refl
+    (record { formed = refl; named = omega arith }) (omega arith)
+
+second : Next (boardOf (worked ∷ [])) another (clash ∷ [])
+unfolding placed joined sameBytes areBytes isOutcome isRefusal isSized conflictBytes conflictFields encode bytesOf numberAt
+second =
+    next-board (boardOf (worked ∷ [])) another (worked ∷ []) (first .holding) refl (record { formed = refl; named = omega arith })
+    (omega arith)
+
+pub worked-taken : (postOf emptyBoard worked ≡ record { posted = Taken; board = alone worked }) × (heldOn (alone worked) ≡ worked ∷ [])
+worked-taken = rw (← board-alone worked (omega arith)) (first .given, first .holding .these)
+
+pub another-clashes : (postOf (alone worked) another ≡ record { posted = Taken; board = alone clash }) × (heldOn (alone clash) ≡ clash ∷ [])
+another-clashes = rw (← board-alone worked (omega arith), ← board-alone clash (omega arith)) (second .given, second .holding .these)
+
+pub clash-is : conflictBytes 7 2 ≡ clash
+unfolding conflictBytes conflictFields encode bytesOf
+clash-is = refl

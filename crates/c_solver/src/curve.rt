@@ -1,0 +1,51 @@
+// The curve that a question asks about, for hosts that draw it: the wanted time T*, the stations, and
+// the time T at any place, both as 01 has them and not in seconds. A time is told by its bits, all ones
+// where there is none; a question that does not pass the entrance checks has no time and no station.
+ghost use mathlib.Core.Path.{_≡_};
+ghost use Rattle.stations.specs.Stations.{stationOf};
+ghost use Rattle.c_solver.specs.Curve.{wantedBits, stationCount, timeBits};
+use entrance::Judged;
+use records::ANSWER_ROOM;
+
+// What is told where there is no time.
+const NO_TIME: u64 = 0xFFFF_FFFF_FFFF_FFFF;
+
+#[no_mangle]
+pub extern "C" fn lambert_wanted(question: &[u8]) -> u64
+    ensures { λ r. ⌜ r ≡ wantedBits (now (question .entry)) ⌝ }
+{
+    match entrance::judge(question, ANSWER_ROOM) {
+        Judged::Refused(_) => NO_TIME,
+        Judged::Accepted(problem) => float64::to_bits(problem.wanted),
+    }
+}
+
+// How many stations the question's grid has.
+#[no_mangle]
+pub extern "C" fn lambert_stations(question: &[u8]) -> u64
+    ensures { λ r. ⌜ r ≡ stationCount (now (question .entry)) ⌝ }
+{
+    match entrance::judge(question, ANSWER_ROOM) {
+        Judged::Refused(_) => 0,
+        Judged::Accepted(problem) => stations::last_station(problem.revolutions) as u64 + 1,
+    }
+}
+
+// The place k of station i, counted from 0, for any i; which of them a question has is told above.
+#[no_mangle]
+pub extern "C" fn lambert_station(i: u16) -> i64
+    ensures { λ r. ⌜ r ≡ stationOf i ⌝ }
+{
+    stations::station(i)
+}
+
+// The time at the place k.
+#[no_mangle]
+pub extern "C" fn lambert_time(question: &[u8], k: i64) -> u64
+    ensures { λ r. ⌜ r ≡ timeBits (now (question .entry)) k ⌝ }
+{
+    match entrance::judge(question, ANSWER_ROOM) {
+        Judged::Refused(_) => NO_TIME,
+        Judged::Accepted(problem) => flight_time::place_bits(entries::place_at(problem, k)),
+    }
+}

@@ -1,0 +1,66 @@
+-- `lambert_sweep_number` meets its contract: what its calls ensure, put together. The sum is small, since a sweep lists eight crossings
+-- at most.
+use Prim.Native.Nat.{ℕ, _≤_, _+_}
+use mathlib.Core.Path.{_≡_, sym, ap, subst, _∙_}
+use native.Mathlib.Omega.{arith}
+use borrow.Author.Needs.{needs}
+use lib.IntN.{ℤ}
+use Rattle.stations.specs.Grid.{Grid}
+use Rattle.sweep.specs.Crossings.{reported, sweepOf, sweepFor}
+use Rattle.sweep.specs.declared.Crossings.{Crossings}
+use Rattle.stations.specs.declared.side.Side.{Side}
+use Rattle.sweep.specs.declared.Walk.{Walk}
+use Rattle.sweep.specs.declared.Walk.the-variants.{AllTimed, SomeVoid, NinthFound}
+use Rattle.c_time.specs.SweepNumber.{walkNumber, foundNumber, searchOf, sweepNumberOf}
+use Rattle.c_time.proofs.lambert_sweep_number.Statement.{statement}
+use Rattle.c_time.proofs.lambert_sweep_number.Tie as tie
+
+count-small : (σ : ℤ → Side) (g : Grid) (last : ℕ) → sweepOf σ g last .count ≤ 8
+unfolding sweepOf reported
+count-small σ g last = omega arith
+
+walk-small : (w : Walk) → walkNumber w ≤ 32
+walk-small AllTimed = omega arith
+walk-small SomeVoid = omega arith
+walk-small NinthFound = omega arith
+
+-- what `find_crossings` ensures, of the argument's bits
+found-is :
+    (c : tie.After-find-crossings) →
+    let a = c .before .before .before .args in
+    c .find-crossings .result ≡ sweepFor (searchOf (a .b) (a .revolutions) (a .w))
+found-is c = simp (c .before .before .with-lambda .ensures, c .before .from-bits .ensures) at (c .find-crossings .ensures)
+
+with-lambda-requires : tie.Need-with-lambda-requires
+with-lambda-requires c κs = search needs
+
+from-bits-requires : tie.Need-from-bits-requires
+from-bits-requires c κs = search needs
+
+find-crossings-requires : tie.Need-find-crossings-requires
+find-crossings-requires c κs = search needs
+
+walk-number-requires : tie.Need-walk-number-requires
+walk-number-requires c κs = search needs
+
+add-result : tie.Need-add-result
+add-result c =
+    let found = c .before .find-crossings .result in
+    let walk : c .walk-number .result ≤ 32 = subst (λ (n : ℕ). n ≤ 32) (sym (c .walk-number .ensures)) (walk-small (found .walk)) in
+    let count : found .count ≤ 8 = subst (λ (r : Crossings). r .count ≤ 8) (sym (found-is (c .before))) (count-small _ _ _) in
+    omega arith
+
+returns : tie.Need-returns
+unfolding sweepNumberOf foundNumber
+returns c = ap (λ (n : ℕ). n + c .before .find-crossings .result .count) (c .walk-number .ensures) ∙ ap foundNumber (found-is (c .before))
+
+pub lambert-sweep-number-spec : {M : Type 1} → statement M
+lambert-sweep-number-spec =
+    tie.close
+    (tie.spec
+    with-lambda-requires
+    from-bits-requires
+    find-crossings-requires
+    walk-number-requires
+    add-result
+    returns)

@@ -1,0 +1,25 @@
+-- What a sweep finds as one number: how many crossings are listed, and how the walk ended. Definitions only.
+use Prim.Native.Nat.{ℕ, _+_}
+use Rattle.float64.specs.Notation.{bits}
+use Rattle.stations.specs.declared.search.Search.{Search}
+use Rattle.sweep.specs.Crossings.{sweepFor}
+use Rattle.sweep.specs.declared.Crossings.{Crossings}
+use Rattle.sweep.specs.declared.Walk.{Walk}
+use Rattle.sweep.specs.declared.Walk.the-variants.{AllTimed, SomeVoid, NinthFound}
+use Rattle.c_time.specs.TimeBits.{withLambda}
+
+-- above every count of a list with eight places
+abbrev pub walkNumber : Walk → ℕ
+walkNumber AllTimed = 0
+walkNumber SomeVoid = 16
+walkNumber NinthFound = 32
+
+unfoldable pub foundNumber : Crossings → ℕ
+foundNumber found = walkNumber (found .walk) + found .count
+
+-- the search for the wanted time with the bits w, in the triangle whose L has the bits b
+abbrev pub searchOf : ℕ → ℕ → ℕ → Search
+searchOf b revolutions w = record { triangle = withLambda b; revolutions = revolutions; wanted = bits w }
+
+unfoldable pub sweepNumberOf : ℕ → ℕ → ℕ → ℕ
+sweepNumberOf b revolutions w = foundNumber (sweepFor (searchOf b revolutions w))

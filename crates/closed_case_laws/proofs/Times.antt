@@ -1,0 +1,70 @@
+-- Times that the prover computes, beside those of 01's worked cases: one table of L, k, M and the place, one statement over all of it.
+use mathlib.Core.Path.{_≡_, refl}
+use mathlib.Core.List.{List, [], _∷_, map}
+use Prim.Native.Nat.{ℕ, _+_, _-_, _^_}
+use lib.IntN.{ℤ, pos, negℤ}
+use lib.Ieee.{add, sub, mul, div, neg, lt, eq, ofBits, ofInt}
+use Rattle.float64.specs.Notation.{bits}
+use Rattle.float64.specs.Value.{magnitudeOf, finiteOf}
+use Rattle.float64.specs.Root.{rootOf}
+use Rattle.closed_case_laws.specs.Given.{withLambda}
+use Rattle.hypergeometric.specs.Steps.{yOf, etaOf, c1Of, nextC, halfAnglesOf, ratioOf, seriesFrom, seriesOf, s4Of, backOf, gOf}
+use Rattle.flight_time.specs.Steps.{outsideRange, xOf, uOf, directOf, withRevolutions}
+use Rattle.flight_time.specs.Time.{timeOf}
+use Rattle.flight_time.specs.declared.Place.{Place}
+use Rattle.flight_time.specs.declared.Place.the-variants.{Timed, Void}
+
+pub record Row : Type 0 where
+  pub L : ℕ
+  pub k : ℤ
+  pub m : ℕ
+  pub place : Place
+
+pub row : ℕ → ℤ → ℕ → Place → Row
+row L k m p = record { L = L; k = k; m = m; place = p }
+
+-- the ends of the ranges: -2^32 + 2^20 and the k below it, and so on
+abbrev pub low : ℤ
+low = negℤ (pos (2 ^ 32 - 2 ^ 20))
+
+abbrev pub too-low : ℤ
+too-low = negℤ (pos (2 ^ 32 - 2 ^ 20 + 1))
+
+-- timed: the f64 nearest to π/2 at L = 0 and x = 0 (also at L = -0), L = 0.6 at x = 0, and M = 1; two times whose last digits tell
+-- sixteen terms from fifteen and from seventeen; void: by a refused root, by a zero divisor, by L (a NaN too), by M, and by k just past
+-- each end
+pub rows : List Row
+rows =
+    row 0 (pos 0) 0 (Timed (bits 0x3FF9_21FB_5444_2D18))
+    ∷ row 0x8000_0000_0000_0000 (pos 0) 0 (Timed (bits 0x3FF9_21FB_5444_2D18))
+    ∷ row 0x3FE3_3333_3333_3333 (pos 0) 0 (Timed (bits 0x3FF6_8447_FD92_2556))
+    ∷ row 0 (pos 0) 1 (Timed (bits 0x4012_D97C_7F33_21D2))
+    ∷ row 0xBFEF_448B_0B8A_EB45 (pos 17099233261) 0 (Timed (bits 0x3FDC_FC14_B3AB_7880))
+    ∷ row 0xBFEE_4487_E8E5_3368 (pos 17163421851) 0 (Timed (bits 0x3FDB_EDA0_859A_6DE0))
+    ∷ row 0xBFEF_FFFF_ED68_3896 low 0 Void
+    ∷ row 0xBFEF_FFFF_FFCC_9337 low 0 Void
+    ∷ row 0xBFF0_0000_0000_0000 (pos 0) 0 Void
+    ∷ row 0x7FF8_0000_0000_0000 (pos 0) 0 Void
+    ∷ row 0 (pos 0) 17 Void
+    ∷ row 0 too-low 0 Void
+    ∷ row 0 (pos (2 ^ 34 + 1)) 0 Void
+    ∷ row 0 (pos (2 ^ 32 - 2 ^ 20 + 1)) 1 Void
+    ∷ []
+
+pub each-row-holds : map (λ (r : Row). timeOf (withLambda (r .L)) (r .k) (r .m)) rows ≡ map (λ (r : Row). r .place) rows
+unfolding rows row withLambda timeOf outsideRange xOf uOf yOf etaOf c1Of nextC halfAnglesOf ratioOf seriesFrom seriesOf s4Of backOf
+    gOf directOf withRevolutions magnitudeOf finiteOf rootOf add sub mul div neg lt eq ofBits ofInt
+each-row-holds = refl
+
+-- at the ends themselves, and with sixteen revolutions, there is a time
+abbrev pub timed : Place → ℕ
+timed (Timed t) = 1
+timed Void = 0
+
+pub ends : List Row
+ends = row 0 low 0 Void ∷ row 0 (pos (2 ^ 34)) 0 Void ∷ row 0 (pos (2 ^ 32 - 2 ^ 20)) 16 Void ∷ row 0 low 16 Void ∷ []
+
+pub ends-are-timed : map (λ (r : Row). timed (timeOf (withLambda (r .L)) (r .k) (r .m))) ends ≡ 1 ∷ 1 ∷ 1 ∷ 1 ∷ []
+unfolding ends row withLambda timeOf outsideRange xOf uOf yOf etaOf c1Of nextC halfAnglesOf ratioOf seriesFrom seriesOf s4Of backOf gOf
+    directOf withRevolutions magnitudeOf finiteOf rootOf add sub mul div neg lt eq ofBits ofInt
+ends-are-timed = refl

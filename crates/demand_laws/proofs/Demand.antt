@@ -1,0 +1,336 @@
+-- THE DEMAND, for every list of bytes and every buffer: `demand-1`, and for a question past the entrance checks `demand-3`. By one equation, `solve-is`: a call gives the first row of 01's whole table that applies, or the answer where none does.
+use mathlib.Core.Path.{_≡_, refl, sym, ap, _∙_, subst}
+use mathlib.Core.Bool.{Bool, true, false, cond}
+use mathlib.Core.Logic.{_⊎_, inl, inr}
+use mathlib.Core.List.{List, [], _∷_, _++_, map}
+use Prim.Native.Nat.{ℕ, zero, suc, _+_, _*_, _≤_, _<_}
+use native.Mathlib.Omega.{arith}
+use native.Mathlib.Nat.{le-of-suc-le-suc, lt-of-not-le, zero-lt-suc}
+use borrow.Author.Tests.{eq-eqb, ne-eqb, eqb-true, eqb-false, ltb-true, ltb-false, lt-ltb, le-ltb}
+use lib.Dec.{eqb, ltb, lit<, lit≤}
+use lib.ListN.{length, getD, take, drop, List·getD-map, length-map}
+use Rattle.geometry.specs.Triangles.{shapeOf}
+use Rattle.geometry.specs.declared.Shape.{Shape}
+use Rattle.little_endian.specs.Bytes.{written}
+use Rattle.records.specs.Layout.{entrySize, answerSize, answerRoom}
+use Rattle.records.specs.Records.{questionOf, headOf, answerHeadOf, entryBytes, answerBytes}
+use Rattle.records.specs.Ranges.{HeadHeld}
+use Rattle.records.specs.declared.Question.{Question}
+use Rattle.records.specs.declared.Entry.{Entry}
+use Rattle.records.proofs.Answers.{answer-length}
+use Rattle.records.proofs.Reading.{entry-read, answer-head-read}
+use Rattle.entrance.specs.Judge.{Check, checks, longWay, firstOf, problemOf, judgeOf}
+use Rattle.entrance.specs.Table.{appliesIn, conditionOf, First, Exactly}
+use Rattle.entrance.specs.declared.Problem.{Problem}
+use Rattle.entrance.specs.declared.Judged.{Judged}
+use Rattle.entrance.specs.declared.Judged.the-variants.{Refused, Accepted}
+use Rattle.entrance.proofs.Table.{Rising, none, more, UpTo, above, first-is, is-first, none-first, first-none, accepted-exactly, accepted-room}
+use Rattle.bound_laws.proofs.Past.{past-bounds}
+use Rattle.stations.specs.Sides.{isUnknown}
+use Rattle.crossing_laws.specs.Listed.{Listed}
+use Rattle.crossing_laws.proofs.Corners.{no-place}
+use Rattle.bisection.specs.Pairs.{crosses}
+use Rattle.sweep.specs.Crossings.{crossings}
+use Rattle.sweep.proofs.Counts.{counted}
+use Rattle.crossing_laws.proofs.Theorems.{clash, false-by, listed-exactly, rises, none-exactly, void-at as some-at, at-void as some-void}
+use Rattle.stations.proofs.Grids.{grid-rises}
+use Rattle.solver.specs.declared.Outcome.{Outcome}
+use Rattle.solver.specs.declared.Outcome.the-variants.{Refused, Answered}
+use Rattle.entries.specs.Entries.{entryFor, finiteFor, every}
+use Rattle.solver.specs.Crossed.{searchOf, sidesOf, gridOf, lastPlace, entriesOf}
+use Rattle.solver.specs.Table.{crossingCount, anyVoid, allFinite, lateChecks}
+use Rattle.solver.specs.Solve.{Solved, refused, answered, settledOf, solvedAfter, solveOf}
+use Rattle.demand_laws.specs.Demand.{problemFrom, tableOf, rowOf, HasAnswer, Demand1, Past, Counts, pairsOf, bracketAt, entryAt, FiniteAll, FiniteNot, TimedAll, VoidSome, NonePair, Pairs, Answer, Demand3}
+use Rattle.demand_laws.specs.Demand.{InDomain}
+use Rattle.solver.proofs.Numbering.{rows, rows-are}
+use Rattle.demand_laws.proofs.RowFacts.{is-none, is-eleven, is-twelve, is-thirteen, is-fourteen, only-four, first-append}
+use Rattle.little_endian.proofs.Laid.{laid}
+use Rattle.question_record.proofs.Recorded.{apart}
+use Rattle.demand_laws.proofs.ReadBack.{entry-held, head-held, listed-at}
+use Rattle.demand_laws.proofs.Answered.{entry-place, entries-pairs, each-finite, finite-each, finite-not, finite-is, timed-at, void-at, at-void, counts-crosses, crosses-counts, bracket-of, chosen-by, lower-of, halvings-of}
+
+module _ (s b : List ℕ) where
+  abbrev q : Question
+  q = questionOf s
+
+  abbrev g : Shape
+  g = shapeOf (q .r1) (q .r2) (longWay q)
+
+  abbrev p : Problem
+  p = problemFrom s
+
+  abbrev entrance : List Check
+  entrance = checks (length s) (length b) q g
+
+  -- the first row that applies, of the entrance, of the rest, and of the whole table
+  abbrev N : ℕ
+  N = firstOf (tableOf s (length b))
+
+  rising-entrance : Rising 0 entrance
+  unfolding checks
+  rising-entrance =
+      more (lit< tt) (more (lit< tt) (more (lit< tt) (more (lit< tt) (more (lit< tt) (more (lit< tt) (more (lit< tt) (more (lit< tt) (more (lit< tt) (more (lit< tt) none)))))))))
+
+  rising-table : Rising 0 (tableOf s (length b))
+  unfolding tableOf checks lateChecks
+  rising-table =
+      more (lit< tt) (more (lit< tt) (more (lit< tt) (more (lit< tt) (more (lit< tt) (more (lit< tt) (more (lit< tt) (more (lit< tt) (more (lit< tt) (more (lit< tt)
+      (more (lit< tt) (more (lit< tt) (more (lit< tt) (more (lit< tt) none)))))))))))))
+
+  to-fourteen : UpTo 14 (tableOf s (length b))
+  unfolding tableOf checks lateChecks
+  to-fourteen =
+      more (lit≤ tt) (more (lit≤ tt) (more (lit≤ tt) (more (lit≤ tt) (more (lit≤ tt) (more (lit≤ tt) (more (lit≤ tt) (more (lit≤ tt) (more (lit≤ tt) (more (lit≤ tt)
+      (more (lit≤ tt) (more (lit≤ tt) (more (lit≤ tt) (more (lit≤ tt) none)))))))))))))
+
+  table-first : N ≡ cond (eqb (firstOf entrance) 0) (firstOf (lateChecks p)) (firstOf entrance)
+  unfolding tableOf
+  table-first = first-append 0 entrance (lateChecks p) rising-entrance
+
+  -- ---- the one equation
+  abbrev given : ℕ → Solved
+  given n = cond (eqb n 0) (answered p b) (refused n b)
+
+  by-entrance : (t : Bool) → eqb (firstOf entrance) 0 ≡ t → solvedAfter (cond t (Accepted p) (Refused (firstOf entrance))) b ≡ given (cond t (firstOf (lateChecks p)) (firstOf entrance))
+  unfolding settledOf
+  by-entrance true e = refl
+  by-entrance false e = rw e
+
+  pub solve-is : solveOf s b ≡ given N
+  unfolding solveOf judgeOf
+  solve-is = by-entrance (eqb (firstOf entrance) 0) refl ∙ ap given (sym table-first)
+
+  -- ---- what an outcome says of the first row
+  given-number : (n : ℕ) (t : Bool) → eqb N 0 ≡ t → cond t (answered p b) (refused N b) .outcome ≡ Refused n → (N ≡ n) × (0 < n)
+  given-number n true e f = apart (sym f)
+  given-number n false e f =
+      let k : N ≡ n = cc f in
+      let z : N ≡ 0 → ⊥ = eqb-false N 0 e in
+      (k, lt-of-not-le (λ h. z (k ∙ omega (arith, h))))
+
+  refused-when : (n : ℕ) → solveOf s b .outcome ≡ Refused n → (N ≡ n) × (0 < n)
+  refused-when n e = given-number n (eqb N 0) refl (sym (ap (λ (x : Solved). x .outcome) solve-is) ∙ e)
+
+  when-refused : (n : ℕ) → 0 < n → N ≡ n → solveOf s b ≡ refused n b
+  when-refused n h e = solve-is ∙ ap given e ∙ rw (ne-eqb n 0 (λ z. omega (arith, z, h)))
+
+  answered-number : (n : ℕ) (t : Bool) → eqb N 0 ≡ t → cond t (answered p b) (refused N b) .outcome ≡ Answered n → (N ≡ 0) × (length (entriesOf p) ≡ n)
+  answered-number n true e f = (eqb-true N 0 e, cc f)
+  answered-number n false e f = apart f
+
+  answered-when : (n : ℕ) → solveOf s b .outcome ≡ Answered n → (N ≡ 0) × (length (entriesOf p) ≡ n)
+  answered-when n e = answered-number n (eqb N 0) refl (sym (ap (λ (x : Solved). x .outcome) solve-is) ∙ e)
+
+  when-answered : N ≡ 0 → solveOf s b ≡ answered p b
+  when-answered e = solve-is ∙ ap given e
+
+  -- ---- 1
+  pub demand-1 : Demand1 s b
+  unfolding rowOf
+  demand-1 =
+      record {
+        refused = λ n h.
+            record {
+              only = λ e. first-is 0 (tableOf s (length b)) n rising-table h (refused-when n e .0);
+              always = λ f. ap (λ (x : Solved). x .outcome) (when-refused n h (is-first 0 (tableOf s (length b)) n rising-table f));
+            };
+        answered =
+            record {
+              only = λ e. first-none 0 (tableOf s (length b)) rising-table (answered-when (e .0) (e .1) .0);
+              always = λ f. (length (entriesOf p), ap (λ (x : Solved). x .outcome) (when-answered (none-first 0 (tableOf s (length b)) rising-table f)));
+            };
+        number = λ n e.
+            let r = refused-when n e in
+            let f = first-is 0 (tableOf s (length b)) n rising-table (r .1) (r .0) in
+            let never : 15 ≤ n → ⊥ = λ h. clash (f .own) (above 14 (tableOf s (length b)) n to-fourteen h) in
+            let most : n ≤ 14 = le-of-suc-le-suc (lt-of-not-le never) in
+            (r .1, omega (arith, most));
+        untouched = λ n e.
+            let r = refused-when n e in
+            ap (λ (x : Solved). x .buffer) (when-refused n (r .1) (r .0));
+      }
+
+  -- ---- 3
+  module _ (past : Past s (length b)) where
+    late : N ≡ firstOf (lateChecks p)
+    unfolding conditionOf
+    late = table-first ∙ rw (none-first 0 entrance rising-entrance past)
+
+    abbrev C : ℕ
+    C = length (pairsOf p)
+
+    row : (n : ℕ) → N ≡ n → rows (eqb C 0) (anyVoid p) (ltb 8 C) (allFinite p) ≡ n
+    row n e = sym (rows-are p) ∙ sym late ∙ e
+
+    of-row : (n : ℕ) → rows (eqb C 0) (anyVoid p) (ltb 8 C) (allFinite p) ≡ n → N ≡ n
+    of-row n e = late ∙ rows-are p ∙ e
+
+    -- the tests in the demand's words
+    pair-listed : (i : ℕ) → Exactly (Listed i (pairsOf p)) (Counts p i)
+    pair-listed i =
+        let l = listed-exactly (sidesOf p) (gridOf p) (lastPlace p) i in
+        record {
+          only = λ h. crosses-counts p i (l .0 h .0) (l .0 h .1);
+          always = λ c. l .1 (c .within, counts-crosses p i c);
+        }
+
+    no-pairs : C ≡ 0 → NonePair p
+    no-pairs e i c =
+        let z : crosses (sidesOf p) (gridOf p) i ≡ false = none-exactly (sidesOf p) (gridOf p) (lastPlace p) .0 (omega (arith, e, counted (sidesOf p) (gridOf p) (lastPlace p))) i (c .within) in
+        clash (counts-crosses p i c) z
+
+    pairs-none : NonePair p → C ≡ 0
+    pairs-none f =
+        omega (arith, counted (sidesOf p) (gridOf p) (lastPlace p), none-exactly (sidesOf p) (gridOf p) (lastPlace p) .1 (λ i h. false-by (crosses (sidesOf p) (gridOf p) i) (λ y. f i (crosses-counts p i h y))))
+
+    some-pairs : eqb C 0 ≡ false → 1 ≤ C
+    some-pairs e = lt-of-not-le (λ h. eqb-false C 0 e (omega (arith, h)))
+
+    all-timed : anyVoid p ≡ false → TimedAll p
+    all-timed e i h =
+        let t = timed-at p (gridOf p .place i) (false-by (isUnknown (sidesOf p (gridOf p .place i))) (λ u. clash (some-at (sidesOf p) (gridOf p) (lastPlace p) i h u) e)) in
+        (t .0, t .1 .0)
+
+    timed-all : TimedAll p → anyVoid p ≡ false
+    timed-all f = false-by (anyVoid p) (λ e. let v = some-void (sidesOf p) (gridOf p) (lastPlace p) e in no-place (sym (at-void p (gridOf p .place (v .0)) (v .1 .1)) ∙ f (v .0) (v .1 .0) .1))
+
+    void-some : anyVoid p ≡ true → VoidSome p
+    void-some e = let v = some-void (sidesOf p) (gridOf p) (lastPlace p) e in (v .0, (v .1 .0, at-void p (gridOf p .place (v .0)) (v .1 .1)))
+
+    some-void-of : VoidSome p → anyVoid p ≡ true
+    some-void-of h = some-at (sidesOf p) (gridOf p) (lastPlace p) (h .0) (h .1 .0) (void-at p (gridOf p .place (h .0)) (h .1 .1))
+
+    finite-all : allFinite p ≡ true → FiniteAll p
+    finite-all e i c = finite-is p i ∙ each-finite p e i (pair-listed i .always c)
+
+    all-finite : FiniteAll p → allFinite p ≡ true
+    all-finite f = finite-each p (λ i l. sym (finite-is p i) ∙ f i (pair-listed i .only l))
+
+    some-infinite : allFinite p ≡ false → FiniteNot p
+    some-infinite e = let r = finite-not p e in (r .0, (pair-listed (r .0) .only (r .1 .0), finite-is p (r .0) ∙ r .1 .1))
+
+    not-all-finite : FiniteNot p → allFinite p ≡ false
+    not-all-finite h = false-by (allFinite p) (λ t. clash (finite-all t (h .0) (h .1 .0)) (h .1 .1))
+
+    in-domain : InDomain p
+    in-domain =
+        let bounds = past-bounds s (length b) past .problem in
+        record { wantedFinite = bounds .wantedFinite; wantedAbove = bounds .wantedAbove; lambdaBelow = bounds .lambdaBelow }
+
+    the-pairs : Pairs p
+    the-pairs =
+        record {
+          listed = pair-listed;
+          rising = rises (sidesOf p) (gridOf p) (lastPlace p);
+          neighbours = grid-rises (searchOf p) .next;
+          bracket = bracket-of p;
+          lowerEnd = lower-of p;
+          halvings = halvings-of p;
+          chosen = chosen-by p;
+        }
+
+    -- an accepted answer
+    room : answerRoom ≤ length b
+    room = accepted-room s (length b) p (accepted-exactly s (length b) .always past)
+
+    few : N ≡ 0 → C ≤ 8
+    few e = ltb-false 8 C (is-none (eqb C 0) (anyVoid p) (ltb 8 C) (allFinite p) (row 0 e) .1)
+
+    many-is : (n : ℕ) → length (entriesOf p) ≡ n → n ≡ C
+    many-is n e = sym e ∙ ap length (entries-pairs p) ∙ length-map (pairsOf p) (entryAt p)
+
+    bytes-are : (n : ℕ) → N ≡ 0 → length (entriesOf p) ≡ n → solveOf s b .buffer ≡ answerBytes (p .job) (p .revision) (map (entryAt p) (pairsOf p)) ++ drop (answerSize n) b
+    bytes-are n z e =
+        let long : length (answerBytes (p .job) (p .revision) (entriesOf p)) ≡ answerSize n = answer-length (p .job) (p .revision) (entriesOf p) ∙ ap (λ (k : ℕ). answerSize k) e in
+        ap (λ (x : Solved). x .buffer) (when-answered z)
+        ∙ laid b (answerBytes (p .job) (p .revision) (entriesOf p)) (omega (arith, long, room, few z, many-is n e))
+        ∙ ap (λ (k : ℕ). answerBytes (p .job) (p .revision) (entriesOf p) ++ drop k b) long
+        ∙ ap (λ (es : List Entry). answerBytes (p .job) (p .revision) es ++ drop (answerSize n) b) (entries-pairs p)
+
+    entry-is : (n : ℕ) → N ≡ 0 → length (entriesOf p) ≡ n → (k : ℕ) → k < n →
+        take entrySize (drop (answerSize k) (solveOf s b .buffer)) ≡ entryBytes (entryAt p (getD (pairsOf p) k 0))
+    entry-is n z e k h =
+        let l : k < length (map (entryAt p) (pairsOf p)) = omega (arith, length-map (pairsOf p) (entryAt p), many-is n e, h) in
+        ap (λ (x : List ℕ). take entrySize (drop (answerSize k) x)) (bytes-are n z e)
+        ∙ entry-place (p .job) (p .revision) (map (entryAt p) (pairsOf p)) (drop (answerSize n) b) k (entryAt p 0) l
+        ∙ ap entryBytes (List·getD-map (entryAt p) (pairsOf p) k 0)
+
+    head-is : (n : ℕ) → N ≡ 0 → length (entriesOf p) ≡ n → HeadHeld (answerHeadOf (q .job) (q .revision) n) →
+        headOf (solveOf s b .buffer) ≡ answerHeadOf (q .job) (q .revision) n
+    unfolding problemOf
+    head-is n z e held =
+        let es = map (entryAt p) (pairsOf p) in
+        let size : length es ≡ n = length-map (pairsOf p) (entryAt p) ∙ sym (many-is n e) in
+        let own : HeadHeld (answerHeadOf (q .job) (q .revision) (length es)) = rw size held in
+        ap headOf (bytes-are n z e)
+        ∙ answer-head-read (q .job) (q .revision) es (drop (answerSize n) b) own
+        ∙ ap (answerHeadOf (q .job) (q .revision)) size
+
+    the-answer : (n : ℕ) → solveOf s b .outcome ≡ Answered n → Answer s b n
+    the-answer n o =
+        let z = answered-when n o .0 in
+        let e = answered-when n o .1 in
+        record {
+          many = many-is n e;
+          bytes = bytes-are n z e;
+          entry = entry-is n z e;
+          entryRead = λ k h.
+              let i = getD (pairsOf p) k 0 in
+              let counts : Counts p i = pair-listed i .only (listed-at (pairsOf p) k (omega (arith, many-is n e, h))) in
+              entry-read (drop (answerSize k) (solveOf s b .buffer)) (entryAt p i) (entry-is n z e k h) (entry-held p i counts);
+          headRead = λ bytes. head-is n z e (head-held s n bytes (omega (arith, many-is n e, few z)));
+        }
+
+    pub demand-3 : Demand3 s b
+    demand-3 =
+        record {
+          domain = in-domain;
+          pairs = the-pairs;
+          accepted =
+              record {
+                only = λ e.
+                    let z = answered-when (e .0) (e .1) .0 in
+                    let r = is-none (eqb C 0) (anyVoid p) (ltb 8 C) (allFinite p) (row 0 z) in
+                    (some-pairs (r .0), omega (arith, few z), finite-all (r .2));
+                always = λ h.
+                    let z = of-row 0 (rw (ne-eqb C 0 (λ k. omega (arith, k, h .0)), le-ltb 8 C (h .1), all-finite (h .2))) in
+                    (length (entriesOf p), ap (λ (x : Solved). x .outcome) (when-answered z));
+              };
+          answer = the-answer;
+          eleven =
+              record {
+                only = λ e.
+                    let r = is-eleven (eqb C 0) (anyVoid p) (ltb 8 C) (allFinite p) (row 11 (refused-when 11 e .0)) in
+                    (all-timed (r .1), no-pairs (eqb-true C 0 (r .0)));
+                always = λ h.
+                    let z = of-row 11 (rw (eq-eqb C 0 (pairs-none (h .1)), timed-all (h .0))) in
+                    ap (λ (x : Solved). x .outcome) (when-refused 11 (lit< tt) z);
+              };
+          twelve =
+              record {
+                only = λ e.
+                    let r = is-twelve (eqb C 0) (anyVoid p) (ltb 8 C) (allFinite p) (row 12 (refused-when 12 e .0)) in
+                    (void-some (r .1), no-pairs (eqb-true C 0 (r .0)));
+                always = λ h.
+                    let v = some-void-of (h .0) in
+                    let z = of-row 12 (rw (eq-eqb C 0 (pairs-none (h .1)), v)) in
+                    ap (λ (x : Solved). x .outcome) (when-refused 12 (lit< tt) z);
+              };
+          thirteen =
+              record {
+                only = λ e. ltb-true 8 C (is-thirteen (eqb C 0) (anyVoid p) (ltb 8 C) (allFinite p) (row 13 (refused-when 13 e .0)));
+                always = λ h.
+                    let z = of-row 13 (rw (ne-eqb C 0 (λ k. omega (arith, k, h)), lt-ltb 8 C h)) in
+                    ap (λ (x : Solved). x .outcome) (when-refused 13 (lit< tt) z);
+              };
+          fourteen =
+              record {
+                only = λ e.
+                    let r = is-fourteen (eqb C 0) (anyVoid p) (ltb 8 C) (allFinite p) (row 14 (refused-when 14 e .0)) in
+                    (some-pairs (r .0), ltb-false 8 C (r .1), some-infinite (r .2));
+                always = λ h.
+                    let z = of-row 14 (rw (ne-eqb C 0 (λ k. omega (arith, k, h .0)), le-ltb 8 C (h .1), not-all-finite (h .2))) in
+                    ap (λ (x : Solved). x .outcome) (when-refused 14 (lit< tt) z);
+              };
+          noOther = λ n e. only-four (eqb C 0) (anyVoid p) (ltb 8 C) (allFinite p) n (row n (refused-when n e .0)) (refused-when n e .1);
+        }

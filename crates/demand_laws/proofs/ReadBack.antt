@@ -1,0 +1,116 @@
+-- What an accepted answer holds fits the wire's fields, so that reading it gives back what was written.
+-- An entry's lower end lies between two places of the grid, it was halved at most 20 times, and a velocity's components are results of rounded
+-- sums (`entry-held`). The head has the job and the revision of a question that is bytes (`head-held`).
+use mathlib.Core.Path.{_≡_, refl}
+use mathlib.Core.Bool.{Bool, true, false, cond}
+use mathlib.Core.Logic.{inl, inr}
+use mathlib.Core.List.{List, [], _∷_}
+use Prim.Native.Nat.{ℕ, zero, suc, _+_, _-_, _≤_, _<_, zero-le}
+use native.Mathlib.Omega.{arith}
+use lib.Dec.{ltb}
+use lib.Ieee.{Float, binary64}
+use lib.Ieee.Fits.{add-fits}
+use lib.IntN.{ℤ, pos, negsuc, _+ℤ_}
+use lib.ListN.{length, getD}
+use lib.Signed.{mag}
+use mir.Syntax.{w64}
+use mir.Val.{SFits}
+use Rattle.float64.specs.declared.Vector.{Vector}
+use Rattle.little_endian.specs.Bytes.{AreBytes}
+use Rattle.little_endian.proofs.Numbers.{number-lt}
+use Rattle.records.specs.Layout.{JOB, REVISION, mostEntries}
+use Rattle.records.specs.Records.{questionOf, answerHeadOf}
+use Rattle.records.specs.Ranges.{VectorHeld, HeadHeld, EntryHeld}
+use Rattle.records.proofs.Reading.{answer-held}
+use Rattle.entrance.specs.declared.Problem.{Problem}
+use Rattle.stations.proofs.Grids.{grid-room}
+use Rattle.crossing_laws.specs.Listed.{Listed}
+use Rattle.velocity.specs.Velocities.{velocityOf, velocitiesOf}
+use Rattle.entries.specs.Entries.{velocitiesAt, velocitiesFor, entryFor}
+use Rattle.entries.proofs.Ends.{entry-names}
+use Rattle.solver.specs.Crossed.{searchOf, gridOf}
+use Rattle.demand_laws.specs.Demand.{Counts, bracketAt, entryAt}
+use Rattle.demand_laws.proofs.Answered.{bracket-of}
+
+-- ---- a place between two others is at most as large as both together
+
+above-zero : ℤ → ℕ
+above-zero (pos n) = n
+above-zero (negsuc n) = 0
+
+below-zero : ℤ → ℕ
+below-zero (pos n) = 0
+below-zero (negsuc n) = n
+
+mag-is : (x : ℤ) → mag x ≡ above-zero x + below-zero x
+unfolding above-zero below-zero
+mag-is (pos n) = omega arith
+mag-is (negsuc n) = omega arith
+
+above-rises : (x : ℤ) (n : ℕ) → above-zero x ≤ above-zero (x +ℤ pos n)
+unfolding above-zero
+above-rises (pos a) n = omega arith
+above-rises (negsuc a) n = zero-le
+
+below-falls : (x : ℤ) (n : ℕ) → below-zero (x +ℤ pos n) ≤ below-zero x
+unfolding below-zero
+below-falls (pos a) n = zero-le
+below-falls (negsuc a) n = by (ltb n (suc a))
+  where
+    by : (t : Bool) → below-zero (cond t (negsuc (suc a - suc n)) (pos (n - suc a))) ≤ a
+    by true = omega arith
+    by false = zero-le
+
+mag-between : (a x y b : ℤ) (k m n : ℕ) → x ≡ a +ℤ pos k → y ≡ x +ℤ pos m → b ≡ y +ℤ pos n → mag x ≤ mag a + mag b
+mag-between a x y b k m n e f g =
+    let low : below-zero x ≤ below-zero a = rw e (below-falls a k) in
+    let middle : above-zero x ≤ above-zero y = rw f (above-rises x m) in
+    let high : above-zero y ≤ above-zero b = rw g (above-rises y n) in
+    omega (arith, mag-is x, mag-is a, mag-is b, low, middle, high)
+
+-- ---- an entry
+
+vector-held : (radial transverse : Float) (n u : Vector) → VectorHeld (velocityOf radial transverse n u)
+unfolding velocityOf
+vector-held radial transverse n u = record { x = add-fits binary64 _ _; y = add-fits binary64 _ _; z = add-fits binary64 _ _ }
+
+module _ (p : Problem) where
+  lower-held : (i : ℕ) → Counts p i → SFits w64 (bracketAt p i .lower)
+  lower-held i c =
+      let r = bracketAt p i in
+      let b = bracket-of p i c in
+      let low = gridOf p .place i in
+      let high = gridOf p .place (i + 1) in
+      let between : mag (r .lower) ≤ mag low + mag high =
+      mag-between low (r .lower) (r .upper) high _ _ _ (b .lowerIs) (b .width) (b .upperIs) in
+      let low-room = grid-room (searchOf p) i (omega (arith, c .within)) in
+      let high-room = grid-room (searchOf p) (i + 1) (omega (arith, c .within)) in
+      record { sfits = omega (arith, between, low-room, high-room) }
+
+  pub entry-held : (i : ℕ) → Counts p i → EntryHeld (entryAt p i)
+  unfolding entryFor velocitiesFor velocitiesAt velocitiesOf
+  entry-held i c =
+      record {
+        lower = lower-held i c;
+        halvings = omega (arith, bracket-of p i c .most);
+        chosen = omega (arith, entry-names p (bracketAt p i));
+        v1 = vector-held _ _ _ _;
+        v2 = vector-held _ _ _ _;
+      }
+
+-- ---- the head
+
+pub head-held : (s : List ℕ) (n : ℕ) → AreBytes s → n ≤ mostEntries → HeadHeld (answerHeadOf (questionOf s .job) (questionOf s .revision) n)
+unfolding questionOf
+head-held s n bytes few =
+    let job = number-lt (JOB .width) (JOB .offset) s bytes in
+    let revision = number-lt (REVISION .width) (REVISION .offset) s bytes in
+    answer-held (questionOf s .job) (questionOf s .revision) job revision n few
+
+-- ---- what stands at a place of a list is listed in it
+
+pub listed-at : (xs : List ℕ) (i : ℕ) → i < length xs → Listed (getD xs i 0) xs
+unfolding Listed
+listed-at [] i h = absurd (omega arith)
+listed-at (x ∷ xs) zero h = inl refl
+listed-at (x ∷ xs) (suc i) h = inr (listed-at xs i (omega arith))

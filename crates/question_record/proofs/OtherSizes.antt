@@ -1,0 +1,16 @@
+-- Bytes that are more or fewer than a question has are refused with number 1, of job 0 and revision 0 (`other-size`).
+use mathlib.Core.Path.{_≡_}
+use mathlib.Core.Bool.{not, _||_}
+use mathlib.Core.List.{List}
+use Prim.Native.Nat.{ℕ}
+use borrow.Author.Tests.{ne-eqb}
+use lib.ListN.{length}
+use Rattle.question_record.specs.Record.{refusalRecord, recordOf}
+use Rattle.records.specs.Layout.{questionSize}
+use Rattle.records.specs.Records.{refusalBytes}
+use Rattle.entrance.specs.Conditions.{malformed}
+use Rattle.entrance.specs.Judge.{checks, firstOf, judgeOf}
+
+pub other-size : (s : List ℕ) → (length s ≡ questionSize → ⊥) → recordOf s ≡ refusalBytes 0 0 1
+unfolding recordOf judgeOf checks malformed firstOf refusalRecord
+other-size s h = rw (ne-eqb (length s) questionSize h)

@@ -1,0 +1,39 @@
+-- The record of a question: its answer or its refusal, given room for the longest answer (01, Records on the wire). Definitions only.
+use Prim.Native.Nat.{ℕ}
+use mathlib.Core.Bool.{cond}
+use mathlib.Core.List.{List}
+use lib.Dec.{eqb, ltb}
+use lib.ListN.{length}
+use Rattle.little_endian.specs.Bytes.{written}
+use Rattle.records.specs.Layout.{answerRoom, jobOf, revisionOf}
+use Rattle.records.specs.Records.{refusalBytes, answerBytes}
+use Rattle.entrance.specs.Judge.{firstOf, judgeOf}
+use Rattle.entrance.specs.declared.Judged.{Judged}
+use Rattle.entrance.specs.declared.Judged.the-variants.{Refused, Accepted}
+use Rattle.solver.specs.Crossed.{entriesOf}
+use Rattle.solver.specs.Table.{lateChecks}
+
+-- the record of a refused question has its job and revision, both 0 where the number is 1
+unfoldable pub refusalRecord : List ℕ → ℕ → List ℕ
+refusalRecord question n =
+    cond (eqb n 1) (refusalBytes 0 0 n) (refusalBytes (jobOf question) (revisionOf question) n)
+
+abbrev pub recordAfter : List ℕ → Judged → List ℕ
+recordAfter question (Refused n) = refusalRecord question n
+recordAfter question (Accepted p) =
+    let n = firstOf (lateChecks p) in
+    cond (eqb n 0) (answerBytes (p .job) (p .revision) (entriesOf p)) (refusalRecord question n)
+
+unfoldable pub recordOf : List ℕ → List ℕ
+recordOf question = recordAfter question (judgeOf question answerRoom)
+
+-- what `write_record` returns, and what the buffer then holds: the record's size, and the record laid over the buffer's start; without
+-- room for the longest answer 0, and the buffer untouched
+pub record Output : Type 0 where
+  pub size : ℕ
+  pub buffer : List ℕ
+
+unfoldable pub outputOf : List ℕ → List ℕ → Output
+outputOf question buffer =
+    cond (ltb (length buffer) answerRoom) (record { size = 0; buffer = buffer })
+    (record { size = length (recordOf question); buffer = written buffer (recordOf question) })

@@ -1,4 +1,0 @@
-pub mod Crossed
-pub mod Table
-pub mod Internals
-pub mod Solve

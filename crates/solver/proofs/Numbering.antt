@@ -1,0 +1,102 @@
+-- The number that the code finds is the first row of 11 to 14 that applies; where it is none, the sweep lists every bracket.
+use mathlib.Core.Path.{_≡_, refl, sym, ap, _∙_, subst}
+use mathlib.Core.Bool.{Bool, true, false, cond, not, _&&_}
+use mathlib.Core.List.{List, map}
+use Prim.Native.Nat.{ℕ, zero, suc, _+_, _≤_, _<_, min}
+use native.Mathlib.Omega.{arith}
+use borrow.Author.Tests.{ltb-true, ltb-false, eq-eqb, ne-eqb}
+use lib.Dec.{eqb, ltb}
+use lib.ListN.{length, take, length-map}
+use Rattle.records.specs.declared.Entry.{Entry}
+use Rattle.entrance.specs.Judge.{Check, check, firstOf}
+use Rattle.entrance.specs.declared.Problem.{Problem}
+use Rattle.sweep.specs.Crossings.{crossings, brackets, someVoid, walkOf, reported, sweepOf}
+use Rattle.sweep.specs.declared.Crossings.{Crossings}
+use Rattle.sweep.specs.declared.Walk.{Walk}
+use Rattle.sweep.specs.declared.Walk.the-variants.{AllTimed, SomeVoid, NinthFound}
+use Rattle.sweep.proofs.Counts.{counted, length-is, all-listed}
+use Rattle.entries.specs.Entries.{entryFor, finiteFor, every}
+use Rattle.solver.specs.Crossed.{sidesOf, gridOf, lastPlace, bracketsOf, entriesOf}
+use Rattle.solver.specs.Table.{crossingCount, anyVoid, allFinite, lateChecks}
+use Rattle.solver.specs.Internals.{velocityNumber, lateNumber}
+use Rattle.solver.specs.Solve.{Solved, refused, answered, settledOf}
+
+-- the rows as a chain of choices
+abbrev pub rows : Bool → Bool → Bool → Bool → ℕ
+rows none void ninth finite = cond (none && not void) 11 (cond (none && void) 12 (cond ninth 13 (cond (not finite) 14 0)))
+
+by-walk : (none void finite : Bool) (count : ℕ) → eqb count 0 ≡ none → lateNumber (walkOf false void) count finite ≡ rows none void false finite
+by-walk true true finite count e = rw e
+by-walk true false finite count e = rw e
+by-walk false true true count e = rw e
+by-walk false true false count e = rw e
+by-walk false false true count e = rw e
+by-walk false false false count e = rw e
+
+module _ (p : Problem) where
+  -- what the sweep of a problem says, and how its brackets fared
+  abbrev pub found : Crossings
+  found = sweepOf (sidesOf p) (gridOf p) (lastPlace p)
+
+  abbrev pub finiteFound : Bool
+  finiteFound = every (finiteFor p) (take (found .count) (found .list))
+
+  pub most-eight : found .count ≤ 8
+  most-eight = omega (arith, counted (sidesOf p) (gridOf p) (lastPlace p))
+
+  all-there : crossingCount p ≤ 8 → take (found .count) (found .list) ≡ bracketsOf p
+  unfolding bracketsOf
+  all-there h = all-listed (sidesOf p) (gridOf p) (lastPlace p) h
+
+  few-count : crossingCount p ≤ 8 → found .count ≡ crossingCount p
+  few-count h = omega (arith, counted (sidesOf p) (gridOf p) (lastPlace p), h)
+
+  by-ninth : (ninth : Bool) → ltb 8 (crossingCount p) ≡ ninth → lateNumber (walkOf ninth (anyVoid p)) (found .count) finiteFound ≡ rows (eqb (crossingCount p) 0) (anyVoid p) ninth (allFinite p)
+  by-ninth true e = rw (ne-eqb (crossingCount p) 0 (λ z. omega (arith, z, ltb-true 8 (crossingCount p) e)))
+  by-ninth false e =
+      let few = ltb-false 8 (crossingCount p) e in
+      rw (all-there few, few-count few) (by-walk (eqb (crossingCount p) 0) (anyVoid p) (allFinite p) (crossingCount p) refl)
+
+  pub rows-are : firstOf (lateChecks p) ≡ rows (eqb (crossingCount p) 0) (anyVoid p) (ltb 8 (crossingCount p)) (allFinite p)
+  unfolding firstOf lateChecks
+  rows-are = refl
+
+  walk-is : found .walk ≡ walkOf (ltb 8 (crossingCount p)) (anyVoid p)
+  unfolding sweepOf reported
+  walk-is = ap (λ (n : ℕ). walkOf (ltb 8 n) (anyVoid p)) (length-is (sidesOf p) (gridOf p) (lastPlace p))
+
+  pub number-is : lateNumber (found .walk) (found .count) finiteFound ≡ firstOf (lateChecks p)
+  number-is =
+      ap (λ (w : Walk). lateNumber w (found .count) finiteFound) walk-is
+      ∙ by-ninth (ltb 8 (crossingCount p)) refl
+      ∙ sym rows-are
+
+  -- ---- where no row applies
+
+  not-ninth : (none void ninth finite : Bool) → rows none void ninth finite ≡ 0 → ninth ≡ false
+  not-ninth none void false finite e = refl
+  not-ninth true true true finite e = absurd (omega (arith, e))
+  not-ninth true false true finite e = absurd (omega (arith, e))
+  not-ninth false void true finite e = absurd (omega (arith, e))
+
+  pub few : firstOf (lateChecks p) ≡ 0 → crossingCount p ≤ 8
+  few e = ltb-false 8 (crossingCount p) (not-ninth (eqb (crossingCount p) 0) (anyVoid p) (ltb 8 (crossingCount p)) (allFinite p) (sym rows-are ∙ e))
+
+  pub entries-are : crossingCount p ≤ 8 → map (entryFor p) (take (found .count) (found .list)) ≡ entriesOf p
+  unfolding entriesOf
+  entries-are h = ap (map (entryFor p)) (all-there h)
+
+  pub count-is : crossingCount p ≤ 8 → found .count ≡ length (entriesOf p)
+  unfolding entriesOf bracketsOf
+  count-is h = few-count h ∙ sym (length-map (bracketsOf p) (entryFor p) ∙ length-is (sidesOf p) (gridOf p) (lastPlace p))
+
+  -- ---- what comes of it
+
+  module _ (buffer : List ℕ) where
+    pub refused-is : (n : ℕ) → n ≡ firstOf (lateChecks p) → (n ≡ 0 → ⊥) → settledOf p buffer ≡ refused n buffer
+    unfolding settledOf
+    refused-is n e f = rw (← e, ne-eqb n 0 f)
+
+    pub answered-is : firstOf (lateChecks p) ≡ 0 → settledOf p buffer ≡ answered p buffer
+    unfolding settledOf
+    answered-is e = rw e

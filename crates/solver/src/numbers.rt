@@ -1,0 +1,34 @@
+// The numbers 11 to 14.
+ghost use mathlib.Core.Path.{_≡_};
+ghost use Rattle.solver.specs.Internals.{velocityNumber, lateNumber};
+use sweep::Walk;
+
+// The number of the first row from 11 to 14 that applies, or 0: of what the sweep says, and of
+// whether all velocities are finite.
+pub(crate) fn late_number(walk: Walk, count: usize, finite: bool) -> u16
+    ensures { λ r. ⌜ r ≡ lateNumber walk count finite ⌝ }
+{
+    match walk {
+        Walk::AllTimed => {
+            if count == 0 {
+                11
+            } else {
+                velocity_number(finite)
+            }
+        }
+        Walk::SomeVoid => {
+            if count == 0 {
+                12
+            } else {
+                velocity_number(finite)
+            }
+        }
+        Walk::NinthFound => 13,
+    }
+}
+
+fn velocity_number(finite: bool) -> u16
+    ensures { λ r. ⌜ r ≡ velocityNumber finite ⌝ }
+{
+    if finite { 0 } else { 14 }
+}

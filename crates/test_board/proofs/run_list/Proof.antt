@@ -1,0 +1,18 @@
+-- `run_list` ends: the measure is how many rounds are left.
+use mathlib.Core.Path.{_≡_}
+use borrow.Author.Needs.{needs}
+use lib.ListN.{length}
+use Rattle.test_board.proofs.run_list.Statement.{statement}
+use Rattle.test_board.proofs.run_list.Tie as tie
+
+abbrev Inv-loop : tie.InvT-loop
+Inv-loop room₀ size₀ left₀ room size left = length room ≡ 34320
+
+abbrev μ-loop : tie.MeasureT-loop
+μ-loop room₀ size₀ left₀ room size left = left
+
+pub run-list-spec : {M : Type 1} → statement M
+run-list-spec =
+    tie.close
+    (tie.spec Inv-loop μ-loop (search needs) (search needs) (search needs) (search needs) (search needs)
+    (search needs) (search needs) (search needs) (search needs) (search needs) (search needs) (search needs))

@@ -1,0 +1,18 @@
+-- `main` ends: the buffer keeps its size, and the measure is how many rounds are left.
+use mathlib.Core.Path.{_≡_}
+use borrow.Author.Needs.{needs}
+use lib.ListN.{length}
+use Rattle.test_link.proofs.main.Statement.{statement}
+use Rattle.test_link.proofs.main.Tie as tie
+
+abbrev Inv-loop : tie.InvT-loop
+Inv-loop bytes₀ ran₀ left₀ bytes ran left = length bytes ≡ 4096
+
+abbrev μ-loop : tie.MeasureT-loop
+μ-loop bytes₀ ran₀ left₀ bytes ran left = left
+
+pub main-spec : {M : Type 1} → statement M
+main-spec =
+    tie.close
+    (tie.spec Inv-loop μ-loop (search needs) (search needs) (search needs) (search needs) (search needs)
+    (search needs) (search needs) (search needs) (search needs))
