@@ -2,7 +2,7 @@
 -- slots after it are moved up and it stands in a slot of its own (`enters-new`), or there is none free (`enters-none`): as `placed` says of
 -- what is held.
 use mathlib.Core.Path.{_≡_, refl, sym, ap, _∙_}
-use mathlib.Core.Bool.{Bool, true, false, cond, not, _&&_}
+use mathlib.Core.Bool.{Bool, true, false, cond, _&&_}
 use mathlib.Core.List.{List, [], _∷_, _++_, append-assoc, append-nil}
 use mathlib.Core.Logic.{_⊎_, inl, inr}
 use Prim.Native.Nat.{ℕ, zero, suc, _+_, _-_, _*_, _≤_, _<_}
@@ -24,7 +24,7 @@ use Rattle.board.specs.declared.Posted.{Posted}
 use Rattle.board.specs.declared.Posted.the-variants.{Taken, Refused}
 use Rattle.board.specs.Board.{SLOTS, boardSize, inOrder, isBoard, heldOn, slotsBytes, boardOf, joined, placed, placedOn}
 use Rattle.board.specs.Board.{HeldRising, next}
-use Rattle.board.specs.Internals.{slotsWhile, hasLength, slotsBeforeFree, slotsBelow, routeOf, movedUp}
+use Rattle.board.specs.Internals.{slotsWhile, slotsBeforeFree, slotsBelow, routeOf, movedUp}
 use Rattle.board.proofs.Boards.{one-more, zeros, padded-append, slotsIn, slots-next, slots-none, board-held}
 
 -- ---- the bytes of slots one after another

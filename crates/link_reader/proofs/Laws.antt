@@ -1,7 +1,7 @@
 -- What holds of the step that every call gives, whatever the state: no more bytes are taken than the piece has
 -- (`taken-within`), and a finished question has room (`question-fits`).
 use mathlib.Core.Path.{_≡_, refl}
-use mathlib.Core.List.{List, _++_}
+use mathlib.Core.List.{List}
 use Prim.Native.Nat.{ℕ, _+_, _-_, _≤_}
 use native.Mathlib.Nat.{min-le-left}
 use native.Mathlib.Omega.{arith}

@@ -15,7 +15,6 @@ use Rattle.little_endian.proofs.Laid.{laid}
 use Rattle.little_endian.proofs.Cuts.{take-cut}
 use Rattle.records.specs.Layout.{questionRoom}
 use Rattle.link_reader.specs.declared.Reader.{Reader}
-use Rattle.link_reader.specs.declared.Step.{Step}
 use Rattle.link_reader.specs.declared.Came.the-variants.{Question, Nothing}
 use Rattle.link_reader.specs.Reading.{keptOf, blank, asNew, stepBy}
 

@@ -11,7 +11,7 @@ use borrow.Author.Tests.{le-leb, eq-eqb}
 use lib.ListN.{length, length-append}
 use Rattle.little_endian.specs.Bytes.{numberAt}
 use Rattle.records.specs.Layout.{CHOSEN, entrySize, refusalSize, answerSize, mostEntries, firstNumber, lastNumber}
-use Rattle.records.specs.Layout.{kindOf, numberOf, sizeOf, chosenAt}
+use Rattle.records.specs.Layout.{sizeOf, chosenAt}
 use Rattle.records.specs.Records.{headBytes, answerHeadOf, refusalBytes, entryBytes, entriesBytes, answerBytes}
 use Rattle.records.specs.declared.Entry.{Entry}
 use Rattle.records.proofs.Sizes.{head-length, entry-length, refusal-length}

@@ -2,8 +2,8 @@
 -- one, of a refusal, of an answer, of an entry's chosen end, and of a conflict. Each is the law of one number, `number-back`, with the
 -- fields before it and those after it.
 use mathlib.Core.Path.{_≡_, refl, sym, ap, _∙_}
-use mathlib.Core.List.{List, [], _∷_, _++_, append-assoc}
-use Prim.Native.Nat.{ℕ, _+_, _*_, _^_, _≤_, _<_}
+use mathlib.Core.List.{List, [], _++_, append-assoc}
+use Prim.Native.Nat.{ℕ, _+_, _^_, _≤_, _<_}
 use native.Mathlib.Omega.{arith}
 use lib.ListN.{length, drop, length-append}
 use Rattle.little_endian.specs.Bytes.{bytesOf, numberAt, signedBits}

@@ -3,8 +3,8 @@ use mathlib.Core.Path.{_≡_, refl, ap, _∙_}
 use mathlib.Core.List.{List, [], _∷_, _++_}
 use Prim.Native.Nat.{ℕ, zero, suc, _+_, _-_, _≤_, _<_}
 use native.Mathlib.Omega.{arith}
-use lib.ListN.{length, getD, take, drop, replicate, length-append, length-replicate}
-use lib.Seq.{take-append-add, getD-take, getD-drop, length-take-le}
+use lib.ListN.{length, getD, take, replicate, length-append, length-replicate}
+use lib.Seq.{take-append-add, getD-take, length-take-le}
 use Rattle.little_endian.specs.Bytes.{numberAt}
 use Rattle.little_endian.proofs.Same.{number-same}
 use Rattle.slots.specs.Slots.{padded}

@@ -1,11 +1,11 @@
 -- `appended` meets its contract. The loop's invariant: the first i bytes of the piece stand in their place. The measure
 -- is how many are left.
 use Prim.Native.Nat.{_+_, _-_, _≤_}
-use mathlib.Core.Path.{_≡_, refl, ap, _∙_}
+use mathlib.Core.Path.{_≡_, ap, _∙_}
 use native.Mathlib.Numerals.{add-one}
 use native.Mathlib.Omega.{arith}
 use borrow.Author.Needs.{needs}
-use lib.ListN.{length, set, getD, length-set}
+use lib.ListN.{length, set, getD}
 use lib.Seq.{paste, paste-zero, paste-suc}
 use Rattle.records.specs.Layout.{questionRoom}
 use Rattle.link_reader.proofs.appended.Statement.{statement}

@@ -1,11 +1,9 @@
 -- `finished` meets its contract: the bytes of the piece up to the question's last stand after the kept ones.
-use mathlib.Core.Path.{_≡_, refl, sym, ap, _∙_}
-use Prim.Native.Nat.{_-_, min}
+use mathlib.Core.Path.{_≡_}
 use native.Mathlib.Omega.{arith}
 use borrow.Author.Needs.{needs}
-use lib.ListN.{length, take}
+use lib.ListN.{length}
 use Rattle.records.specs.Layout.{questionRoom}
-use Rattle.link_reader.specs.Reading.{stepBy}
 use Rattle.link_reader.proofs.Writing.{cut-count, finishes}
 use Rattle.link_reader.proofs.finished.Statement.{statement}
 use Rattle.link_reader.proofs.finished.Tie as tie

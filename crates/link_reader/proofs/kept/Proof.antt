@@ -1,11 +1,9 @@
 -- `kept` meets its contract: the piece stands after the kept bytes.
-use mathlib.Core.Path.{_≡_, refl, sym, ap, _∙_}
-use Prim.Native.Nat.{_+_, min}
+use mathlib.Core.Path.{_≡_}
 use native.Mathlib.Omega.{arith}
 use borrow.Author.Needs.{needs}
-use lib.ListN.{length, take}
+use lib.ListN.{length}
 use Rattle.records.specs.Layout.{questionRoom}
-use Rattle.link_reader.specs.Reading.{stepBy}
 use Rattle.link_reader.proofs.Writing.{cut-count, keeps}
 use Rattle.link_reader.proofs.kept.Statement.{statement}
 use Rattle.link_reader.proofs.kept.Tie as tie

@@ -1,14 +1,12 @@
 -- `Reader::read` meets its contract: what came decides which step it is.
 use mathlib.Core.Path.{_≡_, refl, sym, ap, _∙_}
-use mathlib.Core.List.{List, _++_}
+use mathlib.Core.List.{List}
 use Prim.Native.Nat.{ℕ}
 use native.Mathlib.Omega.{arith}
 use borrow.Author.Needs.{needs}
-use lib.ListN.{length, length-append}
+use lib.ListN.{length-append}
 use Rattle.link_reader.specs.declared.Reader.{Reader}
 use Rattle.link_reader.specs.declared.Came.{Came}
-use Rattle.link_reader.specs.declared.Came.the-variants.{Question}
-use Rattle.link_reader.specs.declared.Step.{Step}
 use Rattle.link_reader.specs.Reading.{keptOf, cameOf, stepBy, readOf}
 use Rattle.link_reader.proofs.Verdicts.{came-verdict, part-fits, whole-fits}
 use Rattle.link_reader.proofs.Reader.read.Statement.{statement}

@@ -1,8 +1,8 @@
 -- `judging::byte_of` meets its contract: a byte is below 256; it stands in the kept bytes, in the piece, or past both.
-use mathlib.Core.Path.{_≡_, sym, ap, _∙_}
+use mathlib.Core.Path.{sym}
 use native.Mathlib.Omega.{arith}
 use borrow.Author.Needs.{needs}
-use Prim.Native.Nat.{ℕ, _+_, _-_}
+use Prim.Native.Nat.{_-_}
 use lib.ListN.{length}
 use Rattle.link_reader.proofs.Held.{at-kept, at-piece, at-none}
 use Rattle.link_reader.proofs.judging.byte_of.Statement.{statement}

@@ -1,5 +1,5 @@
 -- `judging::came_of` meets its contract: after a refusal a reset is needed, else the bytes held decide.
-use mathlib.Core.Path.{_≡_, sym, ap, _∙_}
+use mathlib.Core.Path.{sym, ap, _∙_}
 use mathlib.Core.Bool.{Bool, cond}
 use mathlib.Core.List.{_++_}
 use borrow.Author.Needs.{needs}

@@ -1,6 +1,6 @@
 -- `judging::judge` meets its contract: each way out is one of the four verdicts.
 use mathlib.Core.Path.{_≡_, sym, ap, _∙_}
-use Prim.Native.Nat.{ℕ, _+_, _≤_}
+use Prim.Native.Nat.{ℕ, _+_, _≤_, _<_}
 use mathlib.Core.Bool.{true}
 use mathlib.Core.List.{List, _++_}
 use native.Mathlib.Omega.{arith}
@@ -36,12 +36,17 @@ held-at c =
     let a = c .before .before .before .before .before .before .args in
     a .kept .now ++ a .piece .now
 
+held-long : (c : tie.After-is-question-length) →
+    let a = c .before .before .before .before .before .before .args in
+    length (held-at c) ≡ length (a .kept .now) + length (a .piece .now)
+held-long c =
+    let a = c .before .before .before .before .before .before .args in
+    length-append (a .kept .now) (a .piece .now)
+
 length-in : (c : tie.After-is-question-length) → LENGTH .width ≤ length (held-at c)
 length-in c =
     let enough = c .before .before in
-    let asked = enough .before in
-    let a = asked .before .before .before .args in
-    omega (arith, length-append (a .kept .now) (a .piece .now), enough .if1 .left, asked .missing .ensures)
+    omega (arith, held-long c, enough .if1 .left, enough .before .missing .ensures)
 
 -- what was found of the length
 in-force : (c : tie.After-is-question-length) → isQuestionLength (valueOf LENGTH (held-at c)) ≡ c .is-question-length .result
@@ -73,20 +78,19 @@ returns-3 c =
     let asked = c .before in
     let taken = asked .before in
     let tested = taken .before in
-    let a = tested .before .before .before .before .before .before .args in
-    let long = length-append (a .kept .now) (a .piece .now) in
     let says = tested .before .held-length .ensures in
-    sym (judged-by (part (length-in tested) (good taken) (omega (arith, long, says, c .if3 .taken, asked .missing2 .ensures))))
+    let short : length (held-at tested) < sizeOf (held-at tested) =
+    omega (arith, held-long tested, says, c .if3 .taken, asked .missing2 .ensures) in
+    sym (judged-by (part (length-in tested) (good taken) short))
 
 returns-4 : tie.Need-returns-4
 returns-4 c =
     let asked = c .before in
     let taken = asked .before in
     let tested = taken .before in
-    let a = tested .before .before .before .before .before .before .args in
-    let long = length-append (a .kept .now) (a .piece .now) in
     let says = tested .before .held-length .ensures in
-    let all : sizeOf (held-at tested) ≤ length (held-at tested) = omega (arith, long, says, c .if3 .left, asked .missing2 .ensures) in
+    let all : sizeOf (held-at tested) ≤ length (held-at tested) =
+    omega (arith, held-long tested, says, c .if3 .left, asked .missing2 .ensures) in
     sym (judged-by (whole (length-in tested) (good taken) all (ap (λ (k : ℕ). k + LENGTH .width) (sym says))))
 
 pub judge-spec : {M : Type 1} → statement M

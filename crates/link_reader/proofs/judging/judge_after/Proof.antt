@@ -1,5 +1,5 @@
 -- `judging::judge_after` meets its contract: the kept bytes taken up to a count that is cut to the room's size.
-use mathlib.Core.Path.{_≡_, sym, ap, _∙_}
+use mathlib.Core.Path.{sym, ap, _∙_}
 use mathlib.Core.List.{_++_}
 use native.Mathlib.Omega.{arith}
 use native.Mathlib.Nat.{min-le-right}
