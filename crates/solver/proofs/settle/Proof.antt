@@ -10,6 +10,7 @@ use Rattle.records.specs.Layout.{mostEntries}
 use Rattle.records.specs.Records.{answerBytes}
 use Rattle.records.specs.declared.Entry.{Entry}
 use Rattle.entrance.specs.Judge.{firstOf}
+use Rattle.entrance.specs.declared.Problem.{Problem}
 use Rattle.sweep.specs.declared.Crossings.{Crossings}
 use Rattle.solver.specs.declared.Outcome.the-variants.{Answered}
 use Rattle.entries.specs.Entries.{entryFor, entryFinite, finiteFor, every}
@@ -21,6 +22,10 @@ use Rattle.solver.specs.Solve.{Solved, settledOf}
 use Rattle.solver.proofs.Numbering.{found, most-eight, number-is, few, entries-are, count-is, refused-is, answered-is}
 use Rattle.solver.proofs.settle.Statement.{statement}
 use Rattle.solver.proofs.settle.Tie as tie
+
+-- a problem's answer with some entries, laid over a buffer
+with-answer : Problem → List ℕ → List Entry → List ℕ
+with-answer p buffer es = written buffer (answerBytes (p .job) (p .revision) es)
 
 -- what the sweep returned is what is said of the problem
 found-is : (c : tie.After-find-crossings) → c .find-crossings .result ≡ found (c .before .before .before .args .p)
@@ -93,6 +98,7 @@ same-length : tie.Need-same-length
 same-length c = search needs
 
 returns-2 : tie.Need-returns-2
+unfolding with-answer
 returns-2 c =
     let written-at = c .before .before .before in
     let none = none-at written-at in
@@ -104,12 +110,12 @@ returns-2 c =
     let zero : firstOf (lateChecks p) ≡ 0 = sym (number-at number) ∙ none .if1 .left in
     let h = few p zero in
     let e = answered-is p (a .answer .now) zero in
-    let with-answer : List Entry → List ℕ = λ es. written (a .answer .now) (answerBytes (p .job) (p .revision) es) in (
+    let over = with-answer p (a .answer .now) in (
       ap Answered (ap (λ (x : Crossings). x .count) (found-is at) ∙ count-is p h) ∙ sym (ap (λ (s : Solved). s .outcome) e),
       written-at .write-answer .ensures
-          ∙ ap with-answer (made .entries-of .ensures .1)
-          ∙ ap (λ (x : Crossings). with-answer (map (entryFor p) (take (x .count) (x .list)))) (found-is at)
-          ∙ ap with-answer (entries-are p h)
+          ∙ ap over (made .entries-of .ensures .1)
+          ∙ ap (λ (x : Crossings). over (map (entryFor p) (take (x .count) (x .list)))) (found-is at)
+          ∙ ap over (entries-are p h)
           ∙ sym (ap (λ (s : Solved). s .buffer) e),
     )
 
