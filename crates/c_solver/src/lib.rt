@@ -1,4 +1,5 @@
-// The C interface to the solver, for hosts in other languages: to solve a question, and to draw its curve. A slice is a pointer and a length; the memory of a
+// The C interface to the solver, for hosts in other languages: to solve a question, and to draw its curve. A slice is a pointer and a
+// length; the memory of a
 // question and of a buffer must not overlap.
 ghost use mathlib.Core.Path.{_≡_};
 ghost use Rattle.question_record.specs.Record.{outputOf};

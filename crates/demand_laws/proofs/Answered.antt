@@ -1,4 +1,5 @@
--- What an answer's bytes and entries are: each entry stands at its place, has the bracket of its pair, and the chosen end and velocities that belong to it; and all velocities are finite exactly when each is.
+-- What an answer's bytes and entries are: each entry stands at its place, has the bracket of its pair, and the chosen end and velocities
+-- that belong to it; and all velocities are finite exactly when each is.
 use mathlib.Core.Path.{_≡_, refl, sym, ap, _∙_, subst}
 use mathlib.Core.Bool.{Bool, true, false, cond, not, _&&_}
 use mathlib.Core.Logic.{_⊎_, inl, inr, ⊎-elim}
@@ -39,24 +40,30 @@ use Rattle.demand_laws.specs.Demand.{Counts, pairsOf, bracketAt, entryAt
 
 -- ---- bytes
 
-entry-at : (es : List Entry) (tail : List ℕ) (e : ℕ) (d : Entry) → e < length es → take entrySize (drop (entrySize * e) (entriesBytes es ++ tail)) ≡ entryBytes (getD es e d)
+entry-at : (es : List Entry) (tail : List ℕ) (e : ℕ) (d : Entry) → e < length es →
+    take entrySize (drop (entrySize * e) (entriesBytes es ++ tail)) ≡ entryBytes (getD es e d)
 unfolding entriesBytes
 entry-at [] tail e d h = absurd (omega arith)
-entry-at (x ∷ xs) tail zero d h = ap (take entrySize) (append-assoc (entryBytes x) (entriesBytes xs) tail) ∙ take-at (entryBytes x) (entriesBytes xs ++ tail) entrySize (entry-length x)
+entry-at (x ∷ xs) tail zero d h = ap (take entrySize) (append-assoc (entryBytes x) (entriesBytes xs) tail)
+    ∙ take-at (entryBytes x) (entriesBytes xs ++ tail) entrySize (entry-length x)
 entry-at (x ∷ xs) tail (suc e) d h =
     let k : entrySize * suc e ≡ entrySize + entrySize * e = omega arith in
     ap (λ (n : ℕ). take entrySize (drop n (entryBytes x ++ entriesBytes xs ++ tail))) k
     ∙ ap (take entrySize) (sym (drop-drop (entrySize * e) entrySize (entryBytes x ++ entriesBytes xs ++ tail)))
-    ∙ ap (λ (l : List ℕ). take entrySize (drop (entrySize * e) l)) (ap (drop entrySize) (append-assoc (entryBytes x) (entriesBytes xs) tail) ∙ drop-at (entryBytes x) (entriesBytes xs ++ tail) entrySize (entry-length x))
+    ∙ ap (λ (l : List ℕ). take entrySize (drop (entrySize * e) l))
+    (ap (drop entrySize) (append-assoc (entryBytes x) (entriesBytes xs) tail)
+    ∙ drop-at (entryBytes x) (entriesBytes xs ++ tail) entrySize (entry-length x))
     ∙ entry-at xs tail e d (omega arith)
 
 -- the entry of index e stands where an answer with e entries ends, whatever follows it
-pub entry-place : (job revision : ℕ) (es : List Entry) (tail : List ℕ) (e : ℕ) (d : Entry) → e < length es → take entrySize (drop (answerSize e) (answerBytes job revision es ++ tail)) ≡ entryBytes (getD es e d)
+pub entry-place : (job revision : ℕ) (es : List Entry) (tail : List ℕ) (e : ℕ) (d : Entry) → e < length es →
+    take entrySize (drop (answerSize e) (answerBytes job revision es ++ tail)) ≡ entryBytes (getD es e d)
 unfolding answerBytes
 entry-place job revision es tail e d h =
     let head = headBytes (answerHeadOf job revision (length es)) in
     ap (take entrySize) (sym (drop-drop (entrySize * e) headSize (head ++ entriesBytes es ++ tail)))
-    ∙ ap (λ (l : List ℕ). take entrySize (drop (entrySize * e) l)) (ap (drop headSize) (append-assoc head (entriesBytes es) tail) ∙ drop-at head (entriesBytes es ++ tail) headSize (head-length (answerHeadOf job revision (length es))))
+    ∙ ap (λ (l : List ℕ). take entrySize (drop (entrySize * e) l)) (ap (drop headSize) (append-assoc head (entriesBytes es) tail)
+    ∙ drop-at head (entriesBytes es ++ tail) headSize (head-length (answerHeadOf job revision (length es))))
     ∙ entry-at es tail e d h
 
 map-twice : {A B C : Type 0} (f : B → C) (g : A → B) (xs : List A) → map f (map g xs) ≡ map (λ x. f (g x)) xs
@@ -121,7 +128,8 @@ module _ (p : Problem) where
   finite-each f = of-each (pairsOf p) f
 
   -- the one whose velocities are not finite, where not every one's are
-  not-each : (xs : List ℕ) → every (finiteFor p) (map (bracketAt p) xs) ≡ false → (i : ℕ) × (Listed i xs × (finiteFor p (bracketAt p i) ≡ false))
+  not-each : (xs : List ℕ) → every (finiteFor p) (map (bracketAt p) xs) ≡ false →
+      (i : ℕ) × (Listed i xs × (finiteFor p (bracketAt p i) ≡ false))
   unfolding every Listed
   not-each [] e = absurd (let z : _≡_ {A = ℕ} 0 1 = cc e in omega (arith, z))
   not-each (x ∷ xs) e = which (finiteFor p (bracketAt p x)) refl e (not-each xs)
@@ -163,7 +171,9 @@ module _ (p : Problem) where
 
   pub counts-crosses : (i : ℕ) → Counts p i → crosses (sidesOf p) (gridOf p) i ≡ true
   unfolding crosses
-  counts-crosses i c = rw (side-at (gridOf p .place i) (c .lowerTime) (c .lowerIs), side-at (gridOf p .place (i + 1)) (c .upperTime) (c .upperIs)) (different (c .lowerTime ≺ p .wanted) (c .upperTime ≺ p .wanted) (c .apart))
+  counts-crosses i c =
+      rw (side-at (gridOf p .place i) (c .lowerTime) (c .lowerIs), side-at (gridOf p .place (i + 1)) (c .upperTime) (c .upperIs))
+      (different (c .lowerTime ≺ p .wanted) (c .upperTime ≺ p .wanted) (c .apart))
 
   pub crosses-counts : (i : ℕ) → i < lastPlace p → crosses (sidesOf p) (gridOf p) i ≡ true → Counts p i
   unfolding crosses
@@ -176,15 +186,18 @@ module _ (p : Problem) where
         upperTime = y .0;
         lowerIs = x .1 .0;
         upperIs = y .1 .0;
-        apart = differ (x .0 ≺ p .wanted) (y .0 ≺ p .wanted) (moved (side-at (gridOf p .place i) (x .0) (x .1 .0)) (side-at (gridOf p .place (i + 1)) (y .0) (y .1 .0)) e);
+        apart = differ (x .0 ≺ p .wanted) (y .0 ≺ p .wanted)
+            (moved (side-at (gridOf p .place i) (x .0) (x .1 .0)) (side-at (gridOf p .place (i + 1)) (y .0) (y .1 .0)) e);
       }
 
   -- ---- the bracket and the chosen end of a pair
 
-  pub bracket-of : (i : ℕ) → Counts p i → IsBracket (sidesOf p) (gridOf p .place i) (gridOf p .place (i + 1)) (gridOf p .halvings i) (bracketAt p i)
+  pub bracket-of : (i : ℕ) → Counts p i →
+      IsBracket (sidesOf p) (gridOf p .place i) (gridOf p .place (i + 1)) (gridOf p .halvings i) (bracketAt p i)
   bracket-of i h = bracket-holds (sidesOf p) (gridOf p) (grid-rises (searchOf p)) i (counts-crosses i h)
 
-  takes-is : (r : Bracket) (a b : Float) → placeOf p (r .lower) ≡ Timed a → placeOf p (r .upper) ≡ Timed b → takesUpper p r ≡ upperChosen a b (p .wanted)
+  takes-is : (r : Bracket) (a b : Float) → placeOf p (r .lower) ≡ Timed a → placeOf p (r .upper) ≡ Timed b →
+      takesUpper p r ≡ upperChosen a b (p .wanted)
   unfolding takesUpper
   takes-is r a b e f = rw (e, f)
 

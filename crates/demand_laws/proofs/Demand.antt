@@ -1,4 +1,5 @@
--- THE DEMAND, for every list of bytes and every buffer: `demand-1`, and for a question past the entrance checks `demand-3`. By one equation, `solve-is`: a call gives the first row of 01's whole table that applies, or the answer where none does.
+-- THE DEMAND, for every list of bytes and every buffer: `demand-1`, and for a question past the entrance checks `demand-3`. By one
+-- equation, `solve-is`: a call gives the first row of 01's whole table that applies, or the answer where none does.
 use mathlib.Core.Path.{_≡_, refl, sym, ap, _∙_, subst}
 use mathlib.Core.Bool.{Bool, true, false, cond}
 use mathlib.Core.Logic.{_⊎_, inl, inr}
@@ -24,7 +25,8 @@ use Rattle.entrance.specs.Table.{appliesIn, conditionOf, First, Exactly}
 use Rattle.entrance.specs.declared.Problem.{Problem}
 use Rattle.entrance.specs.declared.Judged.{Judged}
 use Rattle.entrance.specs.declared.Judged.the-variants.{Refused, Accepted}
-use Rattle.entrance.proofs.Table.{Rising, none, more, UpTo, above, first-is, is-first, none-first, first-none, accepted-exactly, accepted-room}
+use Rattle.entrance.proofs.Table.{Rising, none, more, UpTo, above, first-is, is-first, none-first, first-none, accepted-exactly}
+use Rattle.entrance.proofs.Table.{accepted-room}
 use Rattle.bound_laws.proofs.Past.{past-bounds}
 use Rattle.stations.specs.Sides.{isUnknown}
 use Rattle.crossing_laws.specs.Listed.{Listed}
@@ -40,14 +42,17 @@ use Rattle.entries.specs.Entries.{entryFor, finiteFor, every}
 use Rattle.solver.specs.Crossed.{searchOf, sidesOf, gridOf, lastPlace, entriesOf}
 use Rattle.solver.specs.Table.{crossingCount, anyVoid, allFinite, lateChecks}
 use Rattle.solver.specs.Solve.{Solved, refused, answered, settledOf, solvedAfter, solveOf}
-use Rattle.demand_laws.specs.Demand.{problemFrom, tableOf, rowOf, HasAnswer, Demand1, Past, Counts, pairsOf, bracketAt, entryAt, FiniteAll, FiniteNot, TimedAll, VoidSome, NonePair, Pairs, Answer, Demand3}
+use Rattle.demand_laws.specs.Demand.{problemFrom, tableOf, rowOf, HasAnswer, Demand1, Past, Counts, pairsOf, bracketAt, entryAt}
+use Rattle.demand_laws.specs.Demand.{FiniteAll, FiniteNot, TimedAll, VoidSome, NonePair, Pairs, Answer, Demand3}
 use Rattle.demand_laws.specs.Demand.{InDomain}
 use Rattle.solver.proofs.Numbering.{rows, rows-are}
 use Rattle.demand_laws.proofs.RowFacts.{is-none, is-eleven, is-twelve, is-thirteen, is-fourteen, only-four, first-append}
 use Rattle.little_endian.proofs.Laid.{laid}
 use Rattle.question_record.proofs.Recorded.{apart}
 use Rattle.demand_laws.proofs.ReadBack.{entry-held, head-held, listed-at}
-use Rattle.demand_laws.proofs.Answered.{entry-place, entries-pairs, each-finite, finite-each, finite-not, finite-is, timed-at, void-at, at-void, counts-crosses, crosses-counts, bracket-of, chosen-by, lower-of, halvings-of}
+use Rattle.demand_laws.proofs.Answered.{entry-place, entries-pairs, each-finite, finite-each, finite-not, finite-is, timed-at}
+use Rattle.demand_laws.proofs.Answered.{void-at, at-void, counts-crosses, crosses-counts, bracket-of, chosen-by, lower-of}
+use Rattle.demand_laws.proofs.Answered.{halvings-of}
 
 module _ (s b : List ℕ) where
   abbrev q : Question
@@ -69,18 +74,25 @@ module _ (s b : List ℕ) where
   rising-entrance : Rising 0 entrance
   unfolding checks
   rising-entrance =
-      more (lit< tt) (more (lit< tt) (more (lit< tt) (more (lit< tt) (more (lit< tt) (more (lit< tt) (more (lit< tt) (more (lit< tt) (more (lit< tt) (more (lit< tt) none)))))))))
+      more (lit< tt)
+      (more (lit< tt)
+      (more (lit< tt)
+      (more (lit< tt) (more (lit< tt) (more (lit< tt) (more (lit< tt) (more (lit< tt) (more (lit< tt) (more (lit< tt) none)))))))))
 
   rising-table : Rising 0 (tableOf s (length b))
   unfolding tableOf checks lateChecks
   rising-table =
-      more (lit< tt) (more (lit< tt) (more (lit< tt) (more (lit< tt) (more (lit< tt) (more (lit< tt) (more (lit< tt) (more (lit< tt) (more (lit< tt) (more (lit< tt)
+      more (lit< tt)
+      (more (lit< tt)
+      (more (lit< tt) (more (lit< tt) (more (lit< tt) (more (lit< tt) (more (lit< tt) (more (lit< tt) (more (lit< tt) (more (lit< tt)
       (more (lit< tt) (more (lit< tt) (more (lit< tt) (more (lit< tt) none)))))))))))))
 
   to-fourteen : UpTo 14 (tableOf s (length b))
   unfolding tableOf checks lateChecks
   to-fourteen =
-      more (lit≤ tt) (more (lit≤ tt) (more (lit≤ tt) (more (lit≤ tt) (more (lit≤ tt) (more (lit≤ tt) (more (lit≤ tt) (more (lit≤ tt) (more (lit≤ tt) (more (lit≤ tt)
+      more (lit≤ tt)
+      (more (lit≤ tt)
+      (more (lit≤ tt) (more (lit≤ tt) (more (lit≤ tt) (more (lit≤ tt) (more (lit≤ tt) (more (lit≤ tt) (more (lit≤ tt) (more (lit≤ tt)
       (more (lit≤ tt) (more (lit≤ tt) (more (lit≤ tt) (more (lit≤ tt) none)))))))))))))
 
   table-first : N ≡ cond (eqb (firstOf entrance) 0) (firstOf (lateChecks p)) (firstOf entrance)
@@ -91,7 +103,8 @@ module _ (s b : List ℕ) where
   abbrev given : ℕ → Solved
   given n = cond (eqb n 0) (answered p b) (refused n b)
 
-  by-entrance : (t : Bool) → eqb (firstOf entrance) 0 ≡ t → solvedAfter (cond t (Accepted p) (Refused (firstOf entrance))) b ≡ given (cond t (firstOf (lateChecks p)) (firstOf entrance))
+  by-entrance : (t : Bool) → eqb (firstOf entrance) 0 ≡ t →
+      solvedAfter (cond t (Accepted p) (Refused (firstOf entrance))) b ≡ given (cond t (firstOf (lateChecks p)) (firstOf entrance))
   unfolding settledOf
   by-entrance true e = refl
   by-entrance false e = rw e
@@ -114,7 +127,8 @@ module _ (s b : List ℕ) where
   when-refused : (n : ℕ) → 0 < n → N ≡ n → solveOf s b ≡ refused n b
   when-refused n h e = solve-is ∙ ap given e ∙ rw (ne-eqb n 0 (λ z. omega (arith, z, h)))
 
-  answered-number : (n : ℕ) (t : Bool) → eqb N 0 ≡ t → cond t (answered p b) (refused N b) .outcome ≡ Answered n → (N ≡ 0) × (length (entriesOf p) ≡ n)
+  answered-number : (n : ℕ) (t : Bool) → eqb N 0 ≡ t → cond t (answered p b) (refused N b) .outcome ≡ Answered n →
+      (N ≡ 0) × (length (entriesOf p) ≡ n)
   answered-number n true e f = (eqb-true N 0 e, cc f)
   answered-number n false e f = apart f
 
@@ -137,7 +151,10 @@ module _ (s b : List ℕ) where
         answered =
             record {
               only = λ e. first-none 0 (tableOf s (length b)) rising-table (answered-when (e .0) (e .1) .0);
-              always = λ f. (length (entriesOf p), ap (λ (x : Solved). x .outcome) (when-answered (none-first 0 (tableOf s (length b)) rising-table f)));
+              always = λ f. (
+                length (entriesOf p),
+                ap (λ (x : Solved). x .outcome) (when-answered (none-first 0 (tableOf s (length b)) rising-table f)),
+              );
             };
         number = λ n e.
             let r = refused-when n e in
@@ -176,26 +193,37 @@ module _ (s b : List ℕ) where
 
     no-pairs : C ≡ 0 → NonePair p
     no-pairs e i c =
-        let z : crosses (sidesOf p) (gridOf p) i ≡ false = none-exactly (sidesOf p) (gridOf p) (lastPlace p) .0 (omega (arith, e, counted (sidesOf p) (gridOf p) (lastPlace p))) i (c .within) in
+        let z : crosses (sidesOf p) (gridOf p) i ≡ false =
+        none-exactly (sidesOf p) (gridOf p) (lastPlace p) .0 (omega (arith, e, counted (sidesOf p) (gridOf p) (lastPlace p))) i
+        (c .within) in
         clash (counts-crosses p i c) z
 
     pairs-none : NonePair p → C ≡ 0
     pairs-none f =
-        omega (arith, counted (sidesOf p) (gridOf p) (lastPlace p), none-exactly (sidesOf p) (gridOf p) (lastPlace p) .1 (λ i h. false-by (crosses (sidesOf p) (gridOf p) i) (λ y. f i (crosses-counts p i h y))))
+        omega (
+          arith,
+          counted (sidesOf p) (gridOf p) (lastPlace p),
+          none-exactly (sidesOf p) (gridOf p) (lastPlace p) .1
+              (λ i h. false-by (crosses (sidesOf p) (gridOf p) i) (λ y. f i (crosses-counts p i h y))),
+        )
 
     some-pairs : eqb C 0 ≡ false → 1 ≤ C
     some-pairs e = lt-of-not-le (λ h. eqb-false C 0 e (omega (arith, h)))
 
     all-timed : anyVoid p ≡ false → TimedAll p
     all-timed e i h =
-        let t = timed-at p (gridOf p .place i) (false-by (isUnknown (sidesOf p (gridOf p .place i))) (λ u. clash (some-at (sidesOf p) (gridOf p) (lastPlace p) i h u) e)) in
+        let t = timed-at p (gridOf p .place i)
+        (false-by (isUnknown (sidesOf p (gridOf p .place i))) (λ u. clash (some-at (sidesOf p) (gridOf p) (lastPlace p) i h u) e)) in
         (t .0, t .1 .0)
 
     timed-all : TimedAll p → anyVoid p ≡ false
-    timed-all f = false-by (anyVoid p) (λ e. let v = some-void (sidesOf p) (gridOf p) (lastPlace p) e in no-place (sym (at-void p (gridOf p .place (v .0)) (v .1 .1)) ∙ f (v .0) (v .1 .0) .1))
+    timed-all f =
+        false-by (anyVoid p) (λ e. let v = some-void (sidesOf p) (gridOf p) (lastPlace p) e in
+        no-place (sym (at-void p (gridOf p .place (v .0)) (v .1 .1)) ∙ f (v .0) (v .1 .0) .1))
 
     void-some : anyVoid p ≡ true → VoidSome p
-    void-some e = let v = some-void (sidesOf p) (gridOf p) (lastPlace p) e in (v .0, (v .1 .0, at-void p (gridOf p .place (v .0)) (v .1 .1)))
+    void-some e = let v = some-void (sidesOf p) (gridOf p) (lastPlace p) e in
+        (v .0, (v .1 .0, at-void p (gridOf p .place (v .0)) (v .1 .1)))
 
     some-void-of : VoidSome p → anyVoid p ≡ true
     some-void-of h = some-at (sidesOf p) (gridOf p) (lastPlace p) (h .0) (h .1 .0) (void-at p (gridOf p .place (h .0)) (h .1 .1))
@@ -239,9 +267,11 @@ module _ (s b : List ℕ) where
     many-is : (n : ℕ) → length (entriesOf p) ≡ n → n ≡ C
     many-is n e = sym e ∙ ap length (entries-pairs p) ∙ length-map (pairsOf p) (entryAt p)
 
-    bytes-are : (n : ℕ) → N ≡ 0 → length (entriesOf p) ≡ n → solveOf s b .buffer ≡ answerBytes (p .job) (p .revision) (map (entryAt p) (pairsOf p)) ++ drop (answerSize n) b
+    bytes-are : (n : ℕ) → N ≡ 0 → length (entriesOf p) ≡ n →
+        solveOf s b .buffer ≡ answerBytes (p .job) (p .revision) (map (entryAt p) (pairsOf p)) ++ drop (answerSize n) b
     bytes-are n z e =
-        let long : length (answerBytes (p .job) (p .revision) (entriesOf p)) ≡ answerSize n = answer-length (p .job) (p .revision) (entriesOf p) ∙ ap (λ (k : ℕ). answerSize k) e in
+        let long : length (answerBytes (p .job) (p .revision) (entriesOf p)) ≡ answerSize n =
+        answer-length (p .job) (p .revision) (entriesOf p) ∙ ap (λ (k : ℕ). answerSize k) e in
         ap (λ (x : Solved). x .buffer) (when-answered z)
         ∙ laid b (answerBytes (p .job) (p .revision) (entriesOf p)) (omega (arith, long, room, few z, many-is n e))
         ∙ ap (λ (k : ℕ). answerBytes (p .job) (p .revision) (entriesOf p) ++ drop k b) long

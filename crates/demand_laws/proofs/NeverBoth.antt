@@ -1,4 +1,6 @@
--- Yes and no never both come back for one question: with room for an answer, the outcome and the record are a function of the question's bytes alone, whatever the buffer held (`same-outcome`, `never-both`) and however often it is asked; and what the record is to the outcome (`recording`).
+-- Yes and no never both come back for one question: with room for an answer, the outcome and the record are a function of the question's
+-- bytes alone, whatever the buffer held (`same-outcome`, `never-both`) and however often it is asked; and what the record is to the
+-- outcome (`recording`).
 use mathlib.Core.Path.{_≡_, refl, sym, ap, _∙_}
 use mathlib.Core.Bool.{Bool, true, false, cond}
 use mathlib.Core.List.{List, _++_}
@@ -25,7 +27,9 @@ use Rattle.question_record.proofs.WholeRecord.{record-laid, record-size, record
 use Rattle.little_endian.proofs.Laid.{laid, laid-length}
 
 module _ (s : List ℕ) where
-  by-row : (p : Problem) (none : Bool) (b c : List ℕ) → cond none (answered p b) (refused (firstOf (lateChecks p)) b) .outcome ≡ cond none (answered p c) (refused (firstOf (lateChecks p)) c) .outcome
+  by-row : (p : Problem) (none : Bool) (b c : List ℕ) →
+      cond none (answered p b) (refused (firstOf (lateChecks p)) b) .outcome
+      ≡ cond none (answered p c) (refused (firstOf (lateChecks p)) c) .outcome
   by-row p true b c = refl
   by-row p false b c = refl
 
@@ -43,7 +47,8 @@ module _ (s : List ℕ) where
       ∙ sym (ap (λ (j : Judged). solvedAfter j c .outcome) (room-same s (length c) k))
 
   -- never yes to one and no to the other
-  pub never-both : (b c : List ℕ) → answerRoom ≤ length b → answerRoom ≤ length c → (m n : ℕ) → solveOf s b .outcome ≡ Answered m → solveOf s c .outcome ≡ Refused n → ⊥
+  pub never-both : (b c : List ℕ) → answerRoom ≤ length b → answerRoom ≤ length c → (m n : ℕ) → solveOf s b .outcome ≡ Answered m →
+      solveOf s c .outcome ≡ Refused n → ⊥
   never-both b c h k m n e f = apart (sym f ∙ sym (same-outcome b c h k) ∙ e)
 
   -- ---- the record
@@ -80,7 +85,8 @@ module _ (s : List ℕ) where
         ap (solveOf s) (w .0) ∙ both (solveOf s over) (solveOf s b) same (v .0 ∙ twice ∙ sym (w .0))
       where
         both : (x y : Solved) → x .outcome ≡ y .outcome → x .buffer ≡ y .buffer → x ≡ y
-        both x y f g = ap (λ (o : Outcome). record { outcome = o; buffer = x .buffer }) f ∙ ap (λ (l : List ℕ). record { outcome = y .outcome; buffer = l }) g
+        both x y f g = ap (λ (o : Outcome). record { outcome = o; buffer = x .buffer }) f
+            ∙ ap (λ (l : List ℕ). record { outcome = y .outcome; buffer = l }) g
 
     pub recording : Recording s b
     recording =

@@ -1,5 +1,6 @@
 -- What an accepted answer holds fits the wire's fields, so that reading it gives back what was written.
--- An entry's lower end lies between two places of the grid, it was halved at most 20 times, and a velocity's components are results of rounded
+-- An entry's lower end lies between two places of the grid, it was halved at most 20 times, and a velocity's components are results of
+-- rounded
 -- sums (`entry-held`). The head has the job and the revision of a question that is bytes (`head-held`).
 use mathlib.Core.Path.{_≡_, refl}
 use mathlib.Core.Bool.{Bool, true, false, cond}

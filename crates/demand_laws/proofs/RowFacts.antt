@@ -60,6 +60,7 @@ first-append low [] ys none = refl
 first-append low (c ∷ cs) ys (more l r) = by (c .applies) (first-append (c .number) cs ys r)
   where
     by : (b : Bool) → firstOf (cs ++ ys) ≡ cond (eqb (firstOf cs) 0) (firstOf ys) (firstOf cs) →
-        cond b (c .number) (firstOf (cs ++ ys)) ≡ cond (eqb (cond b (c .number) (firstOf cs)) 0) (firstOf ys) (cond b (c .number) (firstOf cs))
+        cond b (c .number) (firstOf (cs ++ ys))
+        ≡ cond (eqb (cond b (c .number) (firstOf cs)) 0) (firstOf ys) (cond b (c .number) (firstOf cs))
     by true e = rw (ne-eqb (c .number) 0 (λ z. omega (arith, z, l)))
     by false e = e

@@ -107,7 +107,8 @@ VoidSome p = (i : ℕ) × ((i ≤ lastPlace p) × (placeOf p (gridOf p .place i)
 abbrev pub NonePair : Problem → Type 0
 NonePair p = (i : ℕ) → Counts p i → ⊥
 
--- the entry of a bracket has the chosen end and the velocities that 01 gives for it: both ends have times, and the end with the smaller |T − T*| is taken, the lower on a tie
+-- the entry of a bracket has the chosen end and the velocities that 01 gives for it: both ends have times, and the end with the smaller
+-- |T − T*| is taken, the lower on a tie
 pub record ChosenBy (p : Problem) (r : Bracket) (e : Entry) : Type 0 where
   pub lowerTime : Float
   pub upperTime : Float
@@ -123,18 +124,25 @@ pub record Pairs (p : Problem) : Type 0 where
   pub listed : (i : ℕ) → Exactly (Listed i (pairsOf p)) (Counts p i)
   pub rising : Rising (pairsOf p)
   pub neighbours : (i : ℕ) → gridOf p .place (i + 1) ≡ gridOf p .place i +ℤ pos (2 ^ (20 - gridOf p .halvings i))
-  -- a pair's bracket is the one that halving of the pair ends with, within the pair, its ends on opposite sides, one step wide or with a void middle
-  pub bracket : (i : ℕ) → Counts p i → IsBracket (sidesOf p) (gridOf p .place i) (gridOf p .place (i + 1)) (gridOf p .halvings i) (bracketAt p i)
+  -- a pair's bracket is the one that halving of the pair ends with, within the pair, its ends on opposite sides, one step wide or with a
+  -- void middle
+  pub bracket : (i : ℕ) → Counts p i →
+      IsBracket (sidesOf p) (gridOf p .place i) (gridOf p .place (i + 1)) (gridOf p .halvings i) (bracketAt p i)
   pub lowerEnd : (i : ℕ) → entryAt p i .lower ≡ bracketAt p i .lower
   pub halvings : (i : ℕ) → entryAt p i .halvings ≡ bracketAt p i .halvings
   -- its entry's chosen end and velocities are those that 01 gives for that bracket
   pub chosen : (i : ℕ) → Counts p i → ChosenBy p (bracketAt p i) (entryAt p i)
 
--- the bytes of an accepted answer: the record at the buffer's start, as many entries as pairs, the first for the lowest pair and so on, and the buffer's own bytes after it
+-- the bytes of an accepted answer: the record at the buffer's start, as many entries as pairs, the first for the lowest pair and so on,
+-- and the buffer's own bytes after it
 pub record Answer (s b : List ℕ) (n : ℕ) : Type 0 where
   pub many : n ≡ length (pairsOf (problemFrom s))
-  pub bytes : solveOf s b .buffer ≡ answerBytes (problemFrom s .job) (problemFrom s .revision) (map (entryAt (problemFrom s)) (pairsOf (problemFrom s))) ++ drop (answerSize n) b
-  pub entry : (e : ℕ) → e < n → take entrySize (drop (answerSize e) (solveOf s b .buffer)) ≡ entryBytes (entryAt (problemFrom s) (getD (pairsOf (problemFrom s)) e 0))
+  pub bytes : solveOf s b .buffer
+      ≡ answerBytes (problemFrom s .job) (problemFrom s .revision) (map (entryAt (problemFrom s)) (pairsOf (problemFrom s)))
+      ++ drop (answerSize n) b
+  pub entry : (e : ℕ) → e < n →
+      take entrySize (drop (answerSize e) (solveOf s b .buffer))
+      ≡ entryBytes (entryAt (problemFrom s) (getD (pairsOf (problemFrom s)) e 0))
   -- a reader of the bytes finds each pair's entry
   pub entryRead : (e : ℕ) → e < n →
       entryOf (drop (answerSize e) (solveOf s b .buffer)) ≡ entryAt (problemFrom s) (getD (pairsOf (problemFrom s)) e 0)
@@ -146,20 +154,24 @@ pub record Demand3 (s b : List ℕ) : Type 0 where
   pub domain : InDomain (problemFrom s)
   pub pairs : Pairs (problemFrom s)
   -- accepted exactly when there are one to eight such pairs and every velocity is finite
-  pub accepted : Exactly (HasAnswer s b) ((1 ≤ length (pairsOf (problemFrom s))) × (length (pairsOf (problemFrom s)) ≤ 8) × FiniteAll (problemFrom s))
+  pub accepted : Exactly (HasAnswer s b)
+      ((1 ≤ length (pairsOf (problemFrom s))) × (length (pairsOf (problemFrom s)) ≤ 8) × FiniteAll (problemFrom s))
   pub answer : (n : ℕ) → solveOf s b .outcome ≡ Answered n → Answer s b n
   -- "no transfer" exactly when every place of the grid has a time and no such pair exists
   pub eleven : Exactly (solveOf s b .outcome ≡ Refused 11) (TimedAll (problemFrom s) × NonePair (problemFrom s))
   -- any other refusal is 12, 13 or 14, each exactly when 01's table says
   pub twelve : Exactly (solveOf s b .outcome ≡ Refused 12) (VoidSome (problemFrom s) × NonePair (problemFrom s))
   pub thirteen : Exactly (solveOf s b .outcome ≡ Refused 13) (8 < length (pairsOf (problemFrom s)))
-  pub fourteen : Exactly (solveOf s b .outcome ≡ Refused 14) ((1 ≤ length (pairsOf (problemFrom s))) × (length (pairsOf (problemFrom s)) ≤ 8) × FiniteNot (problemFrom s))
+  pub fourteen : Exactly (solveOf s b .outcome ≡ Refused 14)
+      ((1 ≤ length (pairsOf (problemFrom s))) × (length (pairsOf (problemFrom s)) ≤ 8) × FiniteNot (problemFrom s))
   pub noOther : (n : ℕ) → solveOf s b .outcome ≡ Refused n → (n ≡ 11) ⊎ ((n ≡ 12) ⊎ ((n ≡ 13) ⊎ (n ≡ 14)))
 
 -- ---- the record that a question gets, given room, and its outcome
 pub record Recording (s b : List ℕ) : Type 0 where
-  pub answered : (n : ℕ) → solveOf s b .outcome ≡ Answered n → (outputOf s b .size ≡ answerSize n) × (outputOf s b .buffer ≡ solveOf s b .buffer)
-  pub refused : (n : ℕ) → solveOf s b .outcome ≡ Refused n → (outputOf s b .size ≡ refusalSize n) × (outputOf s b .buffer ≡ refusalRecord s n ++ drop (refusalSize n) b)
+  pub answered : (n : ℕ) → solveOf s b .outcome ≡ Answered n →
+      (outputOf s b .size ≡ answerSize n) × (outputOf s b .buffer ≡ solveOf s b .buffer)
+  pub refused : (n : ℕ) → solveOf s b .outcome ≡ Refused n →
+      (outputOf s b .size ≡ refusalSize n) × (outputOf s b .buffer ≡ refusalRecord s n ++ drop (refusalSize n) b)
   -- it stands at the buffer's start, fits it, and depends on the question's bytes alone
   pub size : outputOf s b .size ≡ length (recordOf s)
   pub fits : length (recordOf s) ≤ answerRoom
@@ -167,7 +179,8 @@ pub record Recording (s b : List ℕ) : Type 0 where
   -- asked again over what the first call left, nothing changes
   pub again : solveOf s (solveOf s b .buffer) ≡ solveOf s b
 
--- ---- the whole demand: of every list of bytes and every buffer; of a question past the entrance checks; of its record, given room for the longest
+-- ---- the whole demand: of every list of bytes and every buffer; of a question past the entrance checks; of its record, given room for
+-- the longest
 pub record Demanded : Type 0 where
   pub first : (s b : List ℕ) → Demand1 s b
   pub third : (s b : List ℕ) → Past s (length b) → Demand3 s b

@@ -35,7 +35,8 @@ module _ (b new : List ℕ) where
   not-b1 : (board formed : Bool) → formed ≡ true → (zero full : Bool) →
       cond (not board) (boardRefusal 0 b)
       (cond (not formed) (boardRefusal 1 b)
-      (cond zero (boardRefusal 2 b) (cond full (boardRefusal 3 b) (record { posted = Taken; board = boardOf (placed (heldOn b) new) })))) .posted
+      (cond zero (boardRefusal 2 b)
+      (cond full (boardRefusal 3 b) (record { posted = Taken; board = boardOf (placed (heldOn b) new) })))) .posted
       ≡ Refused 1 → ⊥
   not-b1 false formed f zero full e = other-number 0 (λ z. omega (arith, z)) e
   not-b1 true true f true full e = other-number 2 (λ z. omega (arith, z)) e

@@ -25,7 +25,8 @@ use Rattle.solver.specs.Solve.{Solved, refused, answered, settledOf}
 abbrev pub rows : Bool → Bool → Bool → Bool → ℕ
 rows none void ninth finite = cond (none && not void) 11 (cond (none && void) 12 (cond ninth 13 (cond (not finite) 14 0)))
 
-by-walk : (none void finite : Bool) (count : ℕ) → eqb count 0 ≡ none → lateNumber (walkOf false void) count finite ≡ rows none void false finite
+by-walk : (none void finite : Bool) (count : ℕ) → eqb count 0 ≡ none →
+    lateNumber (walkOf false void) count finite ≡ rows none void false finite
 by-walk true true finite count e = rw e
 by-walk true false finite count e = rw e
 by-walk false true true count e = rw e
@@ -51,7 +52,8 @@ module _ (p : Problem) where
   few-count : crossingCount p ≤ 8 → found .count ≡ crossingCount p
   few-count h = omega (arith, counted (sidesOf p) (gridOf p) (lastPlace p), h)
 
-  by-ninth : (ninth : Bool) → ltb 8 (crossingCount p) ≡ ninth → lateNumber (walkOf ninth (anyVoid p)) (found .count) finiteFound ≡ rows (eqb (crossingCount p) 0) (anyVoid p) ninth (allFinite p)
+  by-ninth : (ninth : Bool) → ltb 8 (crossingCount p) ≡ ninth →
+      lateNumber (walkOf ninth (anyVoid p)) (found .count) finiteFound ≡ rows (eqb (crossingCount p) 0) (anyVoid p) ninth (allFinite p)
   by-ninth true e = rw (ne-eqb (crossingCount p) 0 (λ z. omega (arith, z, ltb-true 8 (crossingCount p) e)))
   by-ninth false e =
       let few = ltb-false 8 (crossingCount p) e in
@@ -80,7 +82,8 @@ module _ (p : Problem) where
   not-ninth false void true finite e = absurd (omega (arith, e))
 
   pub few : firstOf (lateChecks p) ≡ 0 → crossingCount p ≤ 8
-  few e = ltb-false 8 (crossingCount p) (not-ninth (eqb (crossingCount p) 0) (anyVoid p) (ltb 8 (crossingCount p)) (allFinite p) (sym rows-are ∙ e))
+  few e = ltb-false 8 (crossingCount p)
+      (not-ninth (eqb (crossingCount p) 0) (anyVoid p) (ltb 8 (crossingCount p)) (allFinite p) (sym rows-are ∙ e))
 
   pub entries-are : crossingCount p ≤ 8 → map (entryFor p) (take (found .count) (found .list)) ≡ entriesOf p
   unfolding entriesOf

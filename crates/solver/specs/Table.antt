@@ -1,4 +1,5 @@
--- The rows 11 to 14 of 01's table of refusals. They say something of any problem, and count once no entrance check applies. Definitions only.
+-- The rows 11 to 14 of 01's table of refusals. They say something of any problem, and count once no entrance check applies. Definitions
+-- only.
 use Prim.Native.Nat.{ℕ}
 use mathlib.Core.Bool.{Bool, not, _&&_}
 use mathlib.Core.List.{List, [], _∷_}
@@ -20,7 +21,8 @@ anyVoid p = someVoid (sidesOf p) (gridOf p) (lastPlace p)
 abbrev pub allFinite : Problem → Bool
 allFinite p = every (finiteFor p) (bracketsOf p)
 
--- 11 no crossing, every station has a time; 12 no crossing, at least one station void; 13 more than 8 crossings; 14 a velocity component of any entry isn't finite
+-- 11 no crossing, every station has a time; 12 no crossing, at least one station void; 13 more than 8 crossings; 14 a velocity component
+-- of any entry isn't finite
 unfoldable pub lateChecks : Problem → List Check
 lateChecks p =
     check 11 (eqb (crossingCount p) 0 && not (anyVoid p))
