@@ -7,8 +7,8 @@ use crate::cut_count;
 use records::Entry;
 use records::MOST_ENTRIES;
 
-// Writes the head, and the first `count` entries after it, all where it is above the places of the list;
-// without room for them it changes nothing.
+// Writes the head, and after it the first `count` entries, or all of them if there are not so many. Without
+// room for that it changes nothing.
 pub fn write_answer(
     job: u32,
     revision: u32,

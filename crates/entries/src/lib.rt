@@ -100,8 +100,8 @@ pub(crate) fn cut_count(count: usize) -> u16
     }
 }
 
-// The entries of the first `count` brackets, of all where it is above the places of the list; the places after
-// them hold zeros.
+// The entries of the first `count` brackets, or of all of them if there are not so many. The places after
+// these entries hold zeros.
 pub fn entries_of(p: Problem, list: [Bracket; MOST_ENTRIES], count: usize) -> [Entry; MOST_ENTRIES]
     ensures places { λ r. ⌜ r ≡ places (map (entryFor p) (take count list)) ⌝ }
     ensures taken { λ r. ⌜ take count r ≡ map (entryFor p) (take count list) ⌝ }
@@ -136,7 +136,7 @@ fn is_finite(e: Entry) -> bool
     velocity::are_finite(Velocities { v1, v2 })
 }
 
-// Whether the velocities of the first `count` entries are finite, of all where it is above the places of the list.
+// Whether the velocities of the first `count` entries are finite, or of all of them if there are not so many.
 pub fn all_finite(entries: [Entry; MOST_ENTRIES], count: usize) -> bool
     ensures { λ r. ⌜ r ≡ every entryFinite (take count entries) ⌝ }
 {
