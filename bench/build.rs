@@ -3,8 +3,8 @@
 fn main() {
     let here = std::env::var("CARGO_MANIFEST_DIR").expect("cargo sets it");
     println!("cargo:rustc-link-search=native={here}/../target/staticlib");
-    let today = ["root_bits", "time_bits", "board"];
-    let before = ["before_root_bits", "before_time_bits"];
+    let today = ["c_root", "c_time", "c_board"];
+    let before = ["before_root", "before_time"];
     let asked = std::env::var_os("CARGO_FEATURE_BEFORE").is_some();
     for name in today.iter().chain(before.iter().filter(|_| asked)) {
         println!("cargo:rustc-link-lib=static={name}");

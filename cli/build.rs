@@ -3,7 +3,7 @@
 fn main() {
     let here = std::env::var("CARGO_MANIFEST_DIR").expect("cargo sets it");
     println!("cargo:rustc-link-search=native={here}/../target/staticlib");
-    for name in ["solver", "board"] {
+    for name in ["c_solver", "c_board"] {
         println!("cargo:rustc-link-lib=static={name}");
         println!("cargo:rerun-if-changed={here}/../target/staticlib/lib{name}.a");
     }

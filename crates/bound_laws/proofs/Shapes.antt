@@ -2,7 +2,7 @@
 -- radii and the chord; and those of the wanted time, from mu, s and the time. One lemma for each step of 01, by the operations' bounds.
 use Prim.Native.Nat.{ℕ, _+_, _*_, _^_, _≤_}
 use native.Mathlib.Omega.{arith}
-use lib.Dec.{T, lit<, lit≤}
+use lib.Dec.{lit<, lit≤}
 use lib.Ieee.{Float}
 use Rattle.float64.specs.declared.Vector.{Vector}
 use Rattle.vectors.specs.Vectors.{normSquared, difference, cross}

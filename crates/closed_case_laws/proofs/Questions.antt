@@ -3,7 +3,7 @@
 use mathlib.Core.Path.{_≡_, refl}
 use mathlib.Core.List.{List, [], _∷_, _++_, map}
 use Prim.Native.Nat.{ℕ, _-_}
-use lib.Ieee.{add, sub, mul, div, size, neg, lt, le, eq, ofBits, toBits}
+use lib.Ieee.{add, sub, mul, div, neg, lt, le, eq, ofBits, toBits}
 use Rattle.float64.specs.Value.{finiteOf, magnitudeOf}
 use Rattle.float64.specs.Root.{rootOf}
 use Rattle.float64.specs.declared.Vector.{Vector}

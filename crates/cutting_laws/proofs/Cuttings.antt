@@ -1,15 +1,12 @@
 -- A stream holds one thing (`holds-one`, by induction on what it holds), so a reader gives out the same and keeps the
 -- same however the stream is cut into pieces (`any-cutting`).
 use mathlib.Core.Path.{_≡_, refl}
-use mathlib.Core.List.{List, [], _∷_, _++_}
+use mathlib.Core.List.{List, _++_}
 use Prim.Native.Nat.{ℕ}
 use Rattle.link_reader.specs.declared.Reader.{Reader}
-use Rattle.link_reader.specs.declared.Came.the-variants.{Question, Nothing, BadLength}
-use Rattle.link_reader.specs.Reading.{judged}
-use Rattle.link_reader.specs.Verdicts.{Verdict}
 use Rattle.link_reader.proofs.Apart.{apart}
 use Rattle.link_reader.proofs.Verdicts.{judged-by}
-use Rattle.cutting_laws.specs.Feeding.{Given, refusal, feedAll, concatenation, StreamHolds, unfinished}
+use Rattle.cutting_laws.specs.Feeding.{Given, feedAll, concatenation, StreamHolds, unfinished}
 use Rattle.cutting_laws.specs.Feeding.{refused-length, next-question, Reached}
 use Rattle.cutting_laws.proofs.Holding.{feed-all-holds}
 use Rattle.cutting_laws.proofs.Parts.{Ends, kept, refused-rest, ends-hold, reached}

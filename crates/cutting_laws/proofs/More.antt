@@ -7,7 +7,7 @@ use native.Mathlib.Omega.{arith}
 use lib.ListN.{length, take, drop, length-append, take-append-drop}
 use lib.Seq.{length-take-le}
 use Rattle.little_endian.proofs.Same.{number-front}
-use Rattle.records.specs.Layout.{LENGTH, valueOf, sizeOf}
+use Rattle.records.specs.Layout.{LENGTH, valueOf}
 use Rattle.link_reader.specs.declared.Came.the-variants.{Question, Nothing, BadLength}
 use Rattle.link_reader.specs.Verdicts.{Verdict, few, bad, part, whole}
 use Rattle.cutting_laws.specs.Feeding.{IsQuestion}

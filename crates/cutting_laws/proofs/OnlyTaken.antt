@@ -10,13 +10,12 @@ use lib.Dec.{leb}
 use lib.ListN.{length, take, drop, length-append, take-append-drop}
 use lib.Seq.{take-append-add, take-append-le, take-length, take-take}
 use Rattle.little_endian.specs.Bytes.{written}
-use Rattle.records.specs.Layout.{LENGTH, valueOf, sizeOf}
 use Rattle.link_reader.specs.declared.Reader.{Reader}
 use Rattle.link_reader.specs.declared.Step.{Step}
 use Rattle.link_reader.specs.declared.Came.{Came}
 use Rattle.link_reader.specs.declared.Came.the-variants.{Question, Nothing, BadLength, NeedsReset}
 use Rattle.link_reader.specs.Reading.{keptOf, asNew, judged, cameOf, stepBy, readOf}
-use Rattle.link_reader.specs.Verdicts.{Verdict, whole}
+use Rattle.link_reader.specs.Verdicts.{Verdict}
 use Rattle.link_reader.proofs.Verdicts.{verdict, judged-by, never-reset, whole-fits}
 use Rattle.cutting_laws.proofs.More.{whole-more, whole-alone}
 

@@ -1,7 +1,7 @@
 -- Of a state that a reader comes to: a call takes some of a piece where no reset is needed (`progress`), so feeding
 -- goes to the end of the piece (`feeding-ends`) and more calls change nothing (`more-calls`). By the rest that the
 -- state goes by.
-use mathlib.Core.Path.{_≡_, refl, sym, ap, _∙_}
+use mathlib.Core.Path.{_≡_, refl, sym, _∙_}
 use mathlib.Core.Bool.{true, false}
 use mathlib.Core.List.{List, [], _∷_}
 use Prim.Native.Nat.{ℕ, suc, _<_}
@@ -9,7 +9,7 @@ use native.Mathlib.Omega.{arith}
 use lib.ListN.{length}
 use Rattle.link_reader.specs.declared.Reader.{Reader}
 use Rattle.link_reader.specs.declared.Step.{Step}
-use Rattle.link_reader.specs.Reading.{Refusal, numberB, afterRefusal, refusalOf, readOf}
+use Rattle.link_reader.specs.Reading.{numberB, afterRefusal, refusalOf, readOf}
 use Rattle.link_reader.proofs.Apart.{apart}
 use Rattle.cutting_laws.specs.Feeding.{Given, Fed, feedFor, feed, Reached}
 use Rattle.cutting_laws.proofs.Calls.{Call, nothing, bad, finished, call}

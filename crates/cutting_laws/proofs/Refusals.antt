@@ -11,7 +11,7 @@ use lib.ListN.{length}
 use Rattle.link_reader.specs.declared.Reader.{Reader}
 use Rattle.link_reader.specs.declared.Came.{Came}
 use Rattle.link_reader.specs.declared.Came.the-variants.{Question, Nothing, BadLength, NeedsReset}
-use Rattle.link_reader.specs.Reading.{Refusal, number, numberB, afterRefusal, refusalOf, cameOf, stepBy, readOf}
+use Rattle.link_reader.specs.Reading.{number, numberB, afterRefusal, refusalOf, cameOf, stepBy, readOf}
 use Rattle.link_reader.proofs.Apart.{apart}
 use Rattle.cutting_laws.specs.Feeding.{givenBy, fed, feedFor, feed, feedAll, concatenation}
 

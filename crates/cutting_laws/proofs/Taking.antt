@@ -9,14 +9,14 @@ use native.Mathlib.Omega.{arith}
 use lib.ListN.{length}
 use Rattle.link_reader.specs.declared.Reader.{Reader}
 use Rattle.link_reader.specs.declared.Came.the-variants.{Nothing}
-use Rattle.link_reader.specs.Reading.{keptOf, asNew, afterRefusal}
+use Rattle.link_reader.specs.Reading.{asNew, afterRefusal}
 use Rattle.link_reader.specs.Verdicts.{Verdict}
 use Rattle.cutting_laws.specs.Feeding.{Given, question, Fed, feed, feedAll, concatenation}
 use Rattle.cutting_laws.specs.Feeding.{keeping, StreamHolds, TakenWhole, TakenToRefusal}
 use Rattle.cutting_laws.proofs.Pieces.{new-holds, feed-kept}
 use Rattle.cutting_laws.proofs.Refusals.{refused-all}
 use Rattle.cutting_laws.proofs.Holding.{feed-holds}
-use Rattle.cutting_laws.proofs.Parts.{Ends, kept, refused-rest, kept-ends, refused-ends, Parts, parts}
+use Rattle.cutting_laws.proofs.Parts.{Ends, kept, refused-rest, kept-ends, refused-ends, parts}
 
 -- a kept rest leaves nothing of a piece
 pub kept-left : {rest : List ℕ} (p : List ℕ) → Verdict rest Nothing → feed (keeping rest) p .left ≡ []

@@ -1,14 +1,14 @@
 -- What an answer's bytes and entries are: each entry stands at its place, has the bracket of its pair, and the chosen end and velocities
 -- that belong to it; and all velocities are finite exactly when each is.
-use mathlib.Core.Path.{_≡_, refl, sym, ap, _∙_, subst}
+use mathlib.Core.Path.{_≡_, refl, sym, ap, _∙_}
 use mathlib.Core.Bool.{Bool, true, false, cond, not, _&&_}
 use mathlib.Core.Logic.{_⊎_, inl, inr, ⊎-elim}
 use mathlib.Core.List.{List, [], _∷_, _++_, map, append-assoc}
-use Prim.Native.Nat.{ℕ, zero, suc, _+_, _*_, _≤_, _<_}
+use Prim.Native.Nat.{ℕ, zero, suc, _+_, _*_, _<_}
 use native.Mathlib.Omega.{arith}
 use lib.IntN.{ℤ}
 use lib.Ieee.{Float}
-use lib.ListN.{length, getD, take, drop, length-append, List·getD-map}
+use lib.ListN.{length, getD, take, drop}
 use lib.Seq.{take-at, drop-at, drop-drop}
 use Rattle.float64.specs.Value.{finiteOf}
 use Rattle.records.specs.Layout.{headSize, entrySize, answerSize}
@@ -16,16 +16,15 @@ use Rattle.records.specs.Records.{headBytes, answerHeadOf, entryBytes, entriesB
 use Rattle.records.specs.declared.Entry.{Entry}
 use Rattle.records.proofs.Sizes.{head-length, entry-length}
 use Rattle.entrance.specs.declared.Problem.{Problem}
-use Rattle.flight_time.specs.Time.{timeOf}
 use Rattle.flight_time.specs.declared.Place.{Place}
 use Rattle.flight_time.specs.declared.Place.the-variants.{Timed, Void}
 use Rattle.float64.specs.Notation.{_≺_}
 use Rattle.stations.specs.Sides.{sideOf, sideAt, opposite, isUnknown}
 use Rattle.stations.specs.declared.side.Side.{Side}
-use Rattle.stations.specs.declared.side.Side.the-variants.{Below, NotBelow, Unknown}
+use Rattle.stations.specs.declared.side.Side.the-variants.{Below, NotBelow}
 use Rattle.bisection.proofs.Halving.{lower-known, upper-known}
 use Rattle.bisection.specs.Pairs.{crosses, bracketOf}
-use Rattle.sweep.specs.Crossings.{crossings, brackets}
+use Rattle.sweep.specs.Crossings.{brackets}
 use Rattle.crossing_laws.specs.Brackets.{IsBracket}
 use Rattle.crossing_laws.specs.Listed.{Listed}
 use Rattle.bisection.specs.declared.Bracket.{Bracket}
@@ -33,7 +32,7 @@ use Rattle.crossing_laws.proofs.AnyTriangle.{known-finite}
 use Rattle.stations.proofs.Grids.{grid-rises}
 use Rattle.crossing_laws.proofs.BracketLaws.{bracket-holds}
 use Rattle.velocity.specs.Chosen.{upperChosen}
-use Rattle.entries.specs.Entries.{placeOf, upperOf, takesUpper, velocitiesAt, velocitiesFor, finiteFor, endNumber}
+use Rattle.entries.specs.Entries.{placeOf, takesUpper, velocitiesAt, velocitiesFor, finiteFor, endNumber}
 use Rattle.entries.specs.Entries.{entryFor, entryFinite, every}
 use Rattle.solver.specs.Crossed.{searchOf, sidesOf, gridOf, lastPlace, bracketsOf, entriesOf}
 use Rattle.demand_laws.specs.Demand.{Counts, pairsOf, bracketAt, entryAt, ChosenBy}

@@ -1,18 +1,16 @@
 -- THE DEMAND, for every list of bytes and every buffer: `demand-1`, and for a question past the entrance checks `demand-3`. By one
 -- equation, `solve-is`: a call gives the first row of 01's whole table that applies, or the answer where none does.
-use mathlib.Core.Path.{_≡_, refl, sym, ap, _∙_, subst}
+use mathlib.Core.Path.{_≡_, refl, sym, ap, _∙_}
 use mathlib.Core.Bool.{Bool, true, false, cond}
-use mathlib.Core.Logic.{_⊎_, inl, inr}
-use mathlib.Core.List.{List, [], _∷_, _++_, map}
-use Prim.Native.Nat.{ℕ, zero, suc, _+_, _*_, _≤_, _<_}
+use mathlib.Core.List.{List, _++_, map}
+use Prim.Native.Nat.{ℕ, _+_, _≤_, _<_}
 use native.Mathlib.Omega.{arith}
-use native.Mathlib.Nat.{le-of-suc-le-suc, lt-of-not-le, zero-lt-suc}
+use native.Mathlib.Nat.{le-of-suc-le-suc, lt-of-not-le}
 use borrow.Author.Tests.{eq-eqb, ne-eqb, eqb-true, eqb-false, ltb-true, ltb-false, lt-ltb, le-ltb}
 use lib.Dec.{eqb, ltb, lit<, lit≤}
 use lib.ListN.{length, getD, take, drop, List·getD-map, length-map}
 use Rattle.geometry.specs.Triangles.{shapeOf}
 use Rattle.geometry.specs.declared.Shape.{Shape}
-use Rattle.little_endian.specs.Bytes.{written}
 use Rattle.records.specs.Layout.{entrySize, answerSize, answerRoom}
 use Rattle.records.specs.Records.{questionOf, headOf, answerHeadOf, entryBytes, answerBytes}
 use Rattle.records.specs.Ranges.{HeadHeld}
@@ -21,9 +19,8 @@ use Rattle.records.specs.declared.Entry.{Entry}
 use Rattle.records.proofs.Answers.{answer-length}
 use Rattle.records.proofs.Reading.{entry-read, answer-head-read}
 use Rattle.entrance.specs.Judge.{Check, checks, longWay, firstOf, problemOf, judgeOf}
-use Rattle.entrance.specs.Table.{appliesIn, conditionOf, First, Exactly}
+use Rattle.entrance.specs.Table.{conditionOf, Exactly}
 use Rattle.entrance.specs.declared.Problem.{Problem}
-use Rattle.entrance.specs.declared.Judged.{Judged}
 use Rattle.entrance.specs.declared.Judged.the-variants.{Refused, Accepted}
 use Rattle.entrance.proofs.Table.{Rising, none, more, UpTo, above, first-is, is-first, none-first, first-none, accepted-exactly}
 use Rattle.entrance.proofs.Table.{accepted-room}
@@ -32,17 +29,14 @@ use Rattle.stations.specs.Sides.{isUnknown}
 use Rattle.crossing_laws.specs.Listed.{Listed}
 use Rattle.crossing_laws.proofs.Corners.{no-place}
 use Rattle.bisection.specs.Pairs.{crosses}
-use Rattle.sweep.specs.Crossings.{crossings}
 use Rattle.sweep.proofs.Counts.{counted}
 use Rattle.crossing_laws.proofs.Theorems.{clash, false-by, listed-exactly, rises, none-exactly, void-at as some-at, at-void as some-void}
 use Rattle.stations.proofs.Grids.{grid-rises}
-use Rattle.solver.specs.declared.Outcome.{Outcome}
 use Rattle.solver.specs.declared.Outcome.the-variants.{Refused, Answered}
-use Rattle.entries.specs.Entries.{entryFor, finiteFor, every}
 use Rattle.solver.specs.Crossed.{searchOf, sidesOf, gridOf, lastPlace, entriesOf}
-use Rattle.solver.specs.Table.{crossingCount, anyVoid, allFinite, lateChecks}
+use Rattle.solver.specs.Table.{anyVoid, allFinite, lateChecks}
 use Rattle.solver.specs.Solve.{Solved, refused, answered, settledOf, solvedAfter, solveOf}
-use Rattle.demand_laws.specs.Demand.{problemFrom, tableOf, rowOf, HasAnswer, Demand1, Past, Counts, pairsOf, bracketAt, entryAt}
+use Rattle.demand_laws.specs.Demand.{problemFrom, tableOf, rowOf, Demand1, Past, Counts, pairsOf, entryAt}
 use Rattle.demand_laws.specs.Demand.{FiniteAll, FiniteNot, TimedAll, VoidSome, NonePair, Pairs, Answer, Demand3}
 use Rattle.demand_laws.specs.Demand.{InDomain}
 use Rattle.solver.proofs.Numbering.{rows, rows-are}

@@ -4,15 +4,14 @@
 use mathlib.Core.Path.{_≡_, refl, sym, ap, _∙_}
 use mathlib.Core.Bool.{Bool, true, false, cond}
 use mathlib.Core.List.{List, _++_}
-use Prim.Native.Nat.{ℕ, _+_, _*_, _≤_}
+use Prim.Native.Nat.{ℕ, _+_, _≤_}
 use native.Mathlib.Omega.{arith}
 use lib.Dec.{eqb}
 use lib.ListN.{length, drop}
 use lib.Seq.{drop-append-seam}
-use Rattle.question_record.specs.Record.{refusalRecord, recordOf, Output, outputOf}
+use Rattle.question_record.specs.Record.{refusalRecord, recordOf, Output}
 use Rattle.little_endian.specs.Bytes.{written}
 use Rattle.records.specs.Layout.{refusalSize, answerRoom}
-use Rattle.records.specs.Records.{answerBytes}
 use Rattle.entrance.specs.Judge.{firstOf, judgeOf}
 use Rattle.entrance.specs.declared.Problem.{Problem}
 use Rattle.entrance.specs.declared.Judged.{Judged}

@@ -1,13 +1,13 @@
 -- What is demanded of `solveOf`, from bytes to bytes, point by point, and at the end the whole (`Demanded`). Definitions only.
 use mathlib.Core.Path.{_≡_}
-use mathlib.Core.Bool.{Bool, true, false, cond, not, _&&_}
+use mathlib.Core.Bool.{Bool, true, false, cond, not}
 use mathlib.Core.Logic.{_⊎_}
 use mathlib.Core.List.{List, _++_, map}
-use Prim.Native.Nat.{ℕ, _+_, _-_, _*_, _^_, _≤_, _<_}
-use lib.IntN.{ℤ, pos, _+ℤ_}
+use Prim.Native.Nat.{ℕ, _+_, _-_, _^_, _≤_, _<_}
+use lib.IntN.{pos, _+ℤ_}
 use lib.Ieee.{Float}
 use lib.ListN.{length, getD, take, drop}
-use Rattle.question_record.specs.Record.{refusalRecord, recordOf, Output, outputOf}
+use Rattle.question_record.specs.Record.{refusalRecord, recordOf, outputOf}
 use Rattle.float64.specs.Notation.{_≺_, 0F, 1F}
 use Rattle.float64.specs.Value.{finiteOf, magnitudeOf}
 use Rattle.geometry.specs.Triangles.{shapeOf}
@@ -25,12 +25,11 @@ use Rattle.crossing_laws.specs.Brackets.{IsBracket}
 use Rattle.crossing_laws.specs.Listed.{Listed, Rising}
 use Rattle.bisection.specs.declared.Bracket.{Bracket}
 use Rattle.velocity.specs.Chosen.{upperChosen}
-use Rattle.solver.specs.declared.Outcome.{Outcome}
 use Rattle.solver.specs.declared.Outcome.the-variants.{Refused, Answered}
 use Rattle.entries.specs.Entries.{placeOf, velocitiesAt, endNumber, entryFor, entryFinite}
 use Rattle.solver.specs.Crossed.{sidesOf, gridOf, lastPlace}
 use Rattle.solver.specs.Table.{lateChecks}
-use Rattle.solver.specs.Solve.{Solved, solveOf}
+use Rattle.solver.specs.Solve.{solveOf}
 
 -- the problem of a question's bytes
 abbrev pub problemFrom : List ℕ → Problem

@@ -5,7 +5,7 @@ use Prim.Native.Nat.{ℕ, zero, suc, _≤_, _<_}
 use mathlib.Core.Path.{_≡_, refl, sym, ap, _∙_, subst}
 use mathlib.Core.Bool.{Bool, true, false, cond, true≢false, false≢true}
 use mathlib.Core.List.{List, [], _∷_, map}
-use native.Mathlib.Nat.{le-of-suc-le-suc, le-of-eq, le-of-lt, le-trans, lt-of-le-of-lt, lt-of-not-le, lt-irrefl, zero-lt-suc}
+use native.Mathlib.Nat.{le-of-suc-le-suc, le-of-eq, le-of-lt, lt-of-le-of-lt, lt-of-not-le, lt-irrefl, zero-lt-suc}
 use native.Mathlib.Omega.{arith}
 use borrow.Author.Tests.{eqb-true, eqb-false, eq-eqb, ne-eqb, ltb-false}
 use lib.Dec.{eqb, lit<, lit≤}
@@ -20,7 +20,6 @@ use Rattle.entrance.specs.Conditions.{malformed, positionsFar, muOutside
 use Rattle.entrance.specs.Judge.{Check, checks, longWay, firstOf, problemOf, judgeOf}
 use Rattle.entrance.specs.Table.{appliesIn, conditionOf, First, Exactly}
 use Rattle.entrance.specs.declared.Problem.{Problem}
-use Rattle.entrance.specs.declared.Judged.{Judged}
 use Rattle.entrance.specs.declared.Judged.the-variants.{Refused, Accepted}
 
 -- ---- lists whose numbers rise, from above `low`

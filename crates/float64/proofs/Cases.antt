@@ -6,15 +6,13 @@ use native.Mathlib.Nat.{lt-of-not-le}
 use native.Mathlib.Omega.{arith}
 use mathlib.Core.Logic.{_⊎_, inl, inr}
 use mathlib.Core.Bool.{Bool, true, false, not, cond, _&&_, true≢false, false≢true}
-use lib.IntN.{ℤ, pos}
-use lib.Dec.{T, leb, ltb, eqb, le→leb, leb→le, nleb→lt, ltb→lt, nltb→le}
+use lib.Dec.{T, leb, ltb, eqb, le→leb, ltb→lt, nltb→le}
 use lib.Ieee.{Float, nan, inf, fin, binary64, fits, isNan, eq, lt, ofFields, ofBits, toBits}
 use lib.Ieee.Bits.{is-true, ofBits-toBits, toBits-lt}
 use Rattle.float64.specs.Notation.{_≺_, _≈_, 0F}
 use Rattle.float64.specs.Value.{finiteOf}
 use Rattle.float64.specs.Root.{rootOf, rootOfUnits}
 use Rattle.float64.specs.Internals.{unitsAt, unitsOfBits}
-use Rattle.float64.specs.declared.Root.{Root}
 use Rattle.float64.specs.declared.Root.the-variants.{Value, Refused}
 use Rattle.float64.proofs.Comparisons.{zero-is-zero, zero-not-above, some-not-zero, some-above}
 use Rattle.float64.proofs.Patterns.{rootOf-positive, rootOf-negative, ofBits-is, clear, fields-units}

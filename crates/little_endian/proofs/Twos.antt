@@ -1,8 +1,8 @@
 -- Two's complement at 64 bits: a negative k is, inverted, -(k + 1), which is not negative; and its bits are a word (`signed-lt`), read as
 -- the number itself (`signed-back`).
-use Prim.Native.Nat.{ℕ, _+_, _-_, _<_, _≤_, _^_, suc}
-use mathlib.Core.Path.{_≡_, refl, sym, ap, subst, _∙_}
-use mathlib.Core.Bool.{Bool, true, false, not, cond}
+use Prim.Native.Nat.{ℕ, _-_, _<_, _≤_, _^_, suc}
+use mathlib.Core.Path.{_≡_, refl, ap, subst}
+use mathlib.Core.Bool.{Bool, true, false, cond}
 use native.Mathlib.Omega.{arith}
 use borrow.Author.Tests.{lt-ltb, le-ltb, ltb-true}
 use lib.Dec.{T, ltb}
@@ -10,7 +10,6 @@ use lib.IntN.{ℤ, pos, negsuc, natAbs}
 use lib.Signed.{ltZ, nonNeg, mag}
 use mir.Syntax.{w64}
 use mir.Val.{toZ, ofZ, sel, SFits, Fits}
-use mir.ValLaws.{toZ-ofZ}
 use Rattle.little_endian.specs.Bytes.{signedBits, signedOf}
 
 small : (n m : ℕ) → n ≡ m → m < 2 ^ 63 → toZ w64 n ≡ pos m

@@ -1,6 +1,5 @@
 -- Bytes that are more or fewer than a question has are refused with number 1, of job 0 and revision 0 (`other-size`).
 use mathlib.Core.Path.{_≡_}
-use mathlib.Core.Bool.{not, _||_}
 use mathlib.Core.List.{List}
 use Prim.Native.Nat.{ℕ}
 use borrow.Author.Tests.{ne-eqb}

@@ -1,14 +1,14 @@
 -- The record of a question: with room for the longest, what a call leaves in the buffer is the record's bytes, or a refusal's bytes go
 -- there; the buffer's own size and contents play no part in it.
-use mathlib.Core.Path.{_≡_, refl, sym, ap, _∙_, subst}
+use mathlib.Core.Path.{_≡_, refl, sym, ap, _∙_}
 use mathlib.Core.Bool.{Bool, true, false, cond}
 use mathlib.Core.List.{List}
-use Prim.Native.Nat.{ℕ, _+_, _*_, _≤_, _<_}
+use Prim.Native.Nat.{ℕ, _≤_, _<_}
 use native.Mathlib.Omega.{arith}
 use borrow.Author.Tests.{le-ltb, lt-ltb, eqb-true}
-use lib.Dec.{eqb, ltb}
+use lib.Dec.{eqb}
 use lib.ListN.{length}
-use Rattle.question_record.specs.Record.{refusalRecord, recordAfter, recordOf, Output, outputOf}
+use Rattle.question_record.specs.Record.{refusalRecord, recordAfter, recordOf, outputOf}
 use Rattle.little_endian.specs.Bytes.{written}
 use Rattle.records.specs.Layout.{answerSize, refusalSize, mostEntries, answerRoom, jobOf, revisionOf}
 use Rattle.records.specs.Records.{refusalBytes, answerBytes}
@@ -19,7 +19,6 @@ use Rattle.entrance.specs.Judge.{checks, firstOf, judgeOf}
 use Rattle.entrance.specs.declared.Problem.{Problem}
 use Rattle.entrance.specs.declared.Judged.{Judged}
 use Rattle.entrance.specs.declared.Judged.the-variants.{Refused, Accepted}
-use Rattle.solver.specs.declared.Outcome.{Outcome}
 use Rattle.solver.specs.declared.Outcome.the-variants.{Refused, Answered}
 use Rattle.solver.specs.Crossed.{entriesOf}
 use Rattle.solver.specs.Table.{lateChecks}

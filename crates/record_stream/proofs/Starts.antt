@@ -1,5 +1,5 @@
 -- What stands at a place, by the facts that the definition tests; and a record's rest fits the room for one (`rest-short`).
-use mathlib.Core.Path.{_≡_, refl, sym, ap, _∙_}
+use mathlib.Core.Path.{_≡_, refl}
 use mathlib.Core.Bool.{Bool, true, false, cond}
 use mathlib.Core.List.{List}
 use Prim.Native.Nat.{ℕ, _≤_, _<_}
@@ -8,7 +8,6 @@ use borrow.Author.Tests.{eq-eqb, ne-eqb, lt-ltb, le-ltb, ltb-false}
 use lib.Dec.{eqb, ltb}
 use lib.ListN.{length}
 use Rattle.records.specs.Layout.{LENGTH, valueOf}
-use Rattle.record_stream.specs.declared.Start.{Start}
 use Rattle.record_stream.specs.declared.Start.the-variants.{End, Record, NoRecord}
 use Rattle.record_stream.specs.Streams.{longestRest, startOf}
 

@@ -2,15 +2,14 @@
 -- length says comes before those of what follows it (`record-first`). And the steps make the whole: by what stands first, the
 -- board so far is written, or nothing, or the record is posted and the rest of the input follows (`board-by-steps`).
 use mathlib.Core.Path.{_≡_, refl, sym, ap, _∙_}
-use mathlib.Core.Bool.{Bool, true, false, cond}
+use mathlib.Core.Bool.{true}
 use mathlib.Core.List.{List, [], _∷_, _++_}
 use Prim.Native.Nat.{ℕ, zero, suc, _+_, _≤_}
 use native.Mathlib.Omega.{arith}
-use lib.ListN.{length, take, drop, length-drop, length-append}
+use lib.ListN.{length, take, drop, length-drop}
 use lib.Seq.{take-append-seam, drop-append-seam, take-append-le, length-take-le}
 use Rattle.little_endian.proofs.Same.{number-take}
 use Rattle.records.specs.Layout.{LENGTH, answerRoom, valueOf}
-use Rattle.board.specs.Board.{postOf}
 use Rattle.board.specs.Posting.{postAll}
 use Rattle.record_stream.specs.declared.Start.{Start}
 use Rattle.record_stream.specs.declared.Start.the-variants.{End, Record, NoRecord}

@@ -1,6 +1,6 @@
 -- Words at the start of a buffer: what stands there once they are put (`put-facts`), and the same of words that are equal (`same-words`).
 use mathlib.Core.Path.{_≡_, refl, sym, ap, _∙_}
-use mathlib.Core.List.{List, _++_}
+use mathlib.Core.List.{List}
 use Prim.Native.Nat.{ℕ, _-_, _≤_}
 use native.Mathlib.Omega.{arith}
 use lib.ListN.{length, take, replicate}

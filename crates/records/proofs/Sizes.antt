@@ -1,7 +1,6 @@
 -- The length of each record's bytes. A record of an outcome is at least as long as a conflict, and there is room for it where there is room
 -- for the longest answer (`refusal-room`, `answer-room`).
 use mathlib.Core.Path.{_≡_}
-use mathlib.Core.List.{[]}
 use Prim.Native.Nat.{ℕ, _≤_}
 use native.Mathlib.Omega.{arith}
 use lib.ListN.{length, length-append}

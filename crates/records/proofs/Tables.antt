@@ -2,8 +2,8 @@
 -- records' sizes.
 use mathlib.Core.Path.{_≡_, refl}
 use mathlib.Core.Bool.{true}
-use mathlib.Core.List.{List, [], _∷_}
-use Prim.Native.Nat.{ℕ, _-_}
+use mathlib.Core.List.{[], _∷_}
+use Prim.Native.Nat.{_-_}
 use Rattle.records.specs.Layout.{LENGTH, questionFields, headFields, entryFields, conflictFields, questionLengths, questionSize}
 use Rattle.records.specs.Layout.{headSize, entrySize, conflictSize, tiles}
 

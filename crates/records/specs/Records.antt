@@ -1,7 +1,6 @@
 -- What each record's bytes say, and the bytes of each record (01, Records on the wire). Definitions only.
-use Prim.Native.Nat.{ℕ, _+_, _*_}
+use Prim.Native.Nat.{ℕ, _+_}
 use mathlib.Core.List.{List, [], _∷_, _++_}
-use lib.Ieee.{Float}
 use lib.ListN.{length}
 use Rattle.float64.specs.Notation.{bits, bitsOf}
 use Rattle.float64.specs.declared.Vector.{Vector}

@@ -1,6 +1,6 @@
 -- What is written for a slot of which nothing came, and for any other.
 use mathlib.Core.Path.{_≡_, sym, ap, _∙_}
-use mathlib.Core.Bool.{Bool, false}
+use mathlib.Core.Bool.{false}
 use mathlib.Core.List.{List, []}
 use Prim.Native.Nat.{ℕ}
 use native.Mathlib.Omega.{arith}
@@ -11,7 +11,6 @@ use Rattle.question_record.specs.Record.{recordOf}
 use Rattle.little_endian.specs.Bytes.{written}
 use Rattle.little_endian.proofs.Laid.{laid}
 use Rattle.records.specs.Layout.{questionSize}
-use Rattle.slot_records.specs.declared.SlotReply.{SlotReply}
 use Rattle.slot_records.specs.Inputs.{slotRecord, slotReply}
 
 pub some-came : (came : List ℕ) → (length came ≡ 0 → ⊥) → slotRecord came ≡ recordOf came

@@ -1,25 +1,23 @@
 -- The number that the code finds is the first row of 11 to 14 that applies; where it is none, the sweep lists every bracket.
-use mathlib.Core.Path.{_≡_, refl, sym, ap, _∙_, subst}
+use mathlib.Core.Path.{_≡_, refl, sym, ap, _∙_}
 use mathlib.Core.Bool.{Bool, true, false, cond, not, _&&_}
 use mathlib.Core.List.{List, map}
-use Prim.Native.Nat.{ℕ, zero, suc, _+_, _≤_, _<_, min}
+use Prim.Native.Nat.{ℕ, _≤_}
 use native.Mathlib.Omega.{arith}
-use borrow.Author.Tests.{ltb-true, ltb-false, eq-eqb, ne-eqb}
+use borrow.Author.Tests.{ltb-true, ltb-false, ne-eqb}
 use lib.Dec.{eqb, ltb}
 use lib.ListN.{length, take, length-map}
-use Rattle.records.specs.declared.Entry.{Entry}
-use Rattle.entrance.specs.Judge.{Check, check, firstOf}
+use Rattle.entrance.specs.Judge.{firstOf}
 use Rattle.entrance.specs.declared.Problem.{Problem}
-use Rattle.sweep.specs.Crossings.{crossings, brackets, someVoid, walkOf, reported, sweepOf}
+use Rattle.sweep.specs.Crossings.{walkOf, reported, sweepOf}
 use Rattle.sweep.specs.declared.Crossings.{Crossings}
 use Rattle.sweep.specs.declared.Walk.{Walk}
-use Rattle.sweep.specs.declared.Walk.the-variants.{AllTimed, SomeVoid, NinthFound}
 use Rattle.sweep.proofs.Counts.{counted, length-is, all-listed}
 use Rattle.entries.specs.Entries.{entryFor, finiteFor, every}
 use Rattle.solver.specs.Crossed.{sidesOf, gridOf, lastPlace, bracketsOf, entriesOf}
 use Rattle.solver.specs.Table.{crossingCount, anyVoid, allFinite, lateChecks}
-use Rattle.solver.specs.Internals.{velocityNumber, lateNumber}
-use Rattle.solver.specs.Solve.{Solved, refused, answered, settledOf}
+use Rattle.solver.specs.Internals.{lateNumber}
+use Rattle.solver.specs.Solve.{refused, answered, settledOf}
 
 -- the rows as a chain of choices
 abbrev pub rows : Bool → Bool → Bool → Bool → ℕ

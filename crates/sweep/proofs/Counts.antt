@@ -1,7 +1,6 @@
 -- How many brackets a sweep reports, over any side of each place and any grid: as many as there are crossings, eight at most; and where
 -- there are at most eight, the used places of the list are all of them.
 use mathlib.Core.Path.{_≡_, ap}
-use mathlib.Core.List.{map}
 use Prim.Native.Nat.{ℕ, _-_, _≤_, min}
 use native.Mathlib.Omega.{arith}
 use lib.ListN.{length, take, replicate, length-map}

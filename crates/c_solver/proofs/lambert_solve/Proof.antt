@@ -1,5 +1,5 @@
 -- `lambert_solve` meets its contract: the number of the outcome that `solve` returns.
-use mathlib.Core.Path.{_≡_, sym, ap, _∙_}
+use mathlib.Core.Path.{sym, ap, _∙_}
 use Rattle.solver.specs.Solve.{outcomeNumber}
 use borrow.Author.Needs.{needs}
 use Rattle.c_solver.proofs.lambert_solve.Statement.{statement}

@@ -1,13 +1,12 @@
 -- `entries_of` meets its contract: the invariant is that the first i entries are in their places; the measure is how many are left.
-use mathlib.Core.Path.{_≡_, refl, sym, ap, _∙_}
+use mathlib.Core.Path.{_≡_, refl, ap, _∙_}
 use mathlib.Core.List.{List, map}
-use Prim.Native.Nat.{ℕ, _+_, _-_, _≤_, _<_, min}
+use Prim.Native.Nat.{ℕ, _-_, _≤_, _<_, min}
 use native.Mathlib.Omega.{arith}
 use borrow.Author.Needs.{needs}
-use lib.ListN.{length, take, set}
+use lib.ListN.{length, take}
 use Rattle.bisection.specs.declared.Bracket.{Bracket}
 use Rattle.records.specs.Layout.{mostEntries}
-use Rattle.records.specs.declared.Entry.{Entry}
 use Rattle.entries.specs.Entries.{entryFor, places}
 use Rattle.entries.proofs.Lists.{entriesUpTo, places-next, take-cut-count, taken-again}
 use Rattle.entries.proofs.entries_of.Statement.{statement}

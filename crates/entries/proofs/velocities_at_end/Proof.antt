@@ -1,6 +1,5 @@
 -- `velocities_at_end` meets its contract: by its test.
 use borrow.Author.Needs.{needs}
-use mathlib.Core.Path.{_≡_}
 use mir.Facts.{toZ-ofZ}
 use mir.Syntax.{w64}
 use mir.Val.{SFits}

@@ -1,5 +1,5 @@
 -- `place_bits` meets its contract: by the cases of the place.
-use mathlib.Core.Path.{_≡_, sym}
+use mathlib.Core.Path.{sym}
 use Rattle.flight_time.specs.Time.{placeBits}
 use borrow.Author.Needs.{needs}
 use Rattle.flight_time.proofs.place_bits.Statement.{statement}

@@ -1,5 +1,5 @@
 -- `half_angles` meets its contract: each return is what its calls ensure, up to the root that was refused.
-use mathlib.Core.Path.{_≡_, sym, _∙_}
+use mathlib.Core.Path.{_≡_, sym}
 use lib.Ieee.{Float}
 use Rattle.float64.specs.Root.{rootOf}
 use Rattle.hypergeometric.specs.Steps.{halfAnglesOf, anglesAfterRoot, nextC}

@@ -1,6 +1,5 @@
 -- `answer_first` is safe: the part is as long as it says.
 use mathlib.Core.Path.{sym}
-use native.Mathlib.Omega.{arith}
 use lib.Seq.{length-take-le}
 use borrow.Author.Needs.{needs}
 use Rattle.link.proofs.answer_first.Statement.{statement}

@@ -1,9 +1,9 @@
 -- `read_bytes` is safe: what was read lies within the part that was lent, and so within the buffer.
-use mathlib.Core.Path.{_≡_, sym, subst, _∙_}
+use mathlib.Core.Path.{sym, subst}
 use mathlib.Core.List.{_++_}
 use Prim.Native.Nat.{_≤_}
 use native.Mathlib.Omega.{arith}
-use lib.ListN.{length, take, drop, length-append}
+use lib.ListN.{length, drop, length-append}
 use lib.Seq.{length-take-le}
 use Rattle.standard_input.specs.Got.{Within}
 use borrow.Author.Needs.{needs}

@@ -1,8 +1,7 @@
 -- `post_after` is safe: the bytes that are looked at lie within the buffer, and a record's rest fits it.
-use mathlib.Core.Path.{_≡_, sym, _∙_}
+use mathlib.Core.Path.{sym, _∙_}
 use native.Mathlib.Omega.{arith}
 use borrow.Author.Needs.{needs}
-use lib.ListN.{length, take}
 use lib.Seq.{length-take-le}
 use Rattle.record_stream.proofs.Starts.{rest-short}
 use Rattle.post.proofs.post_after.Statement.{statement}

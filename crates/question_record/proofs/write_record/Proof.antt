@@ -1,9 +1,9 @@
 -- `write_record` meets its contract: an answer stands in the buffer already, and a refusal's record is written over it.
-use mathlib.Core.Path.{_≡_, sym, ap, _∙_}
+use mathlib.Core.Path.{sym, ap, _∙_}
 use mathlib.Core.List.{List}
 use Prim.Native.Nat.{ℕ}
 use lib.ListN.{length}
-use Rattle.question_record.specs.Record.{Output, refusalRecord, recordOf, outputOf}
+use Rattle.question_record.specs.Record.{Output, refusalRecord}
 use Rattle.little_endian.specs.Bytes.{written}
 use Rattle.question_record.proofs.Recorded.{when-answered, when-refused, no-room, has-room, refusal-record-length}
 use borrow.Author.Needs.{needs}

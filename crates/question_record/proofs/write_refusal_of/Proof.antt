@@ -1,11 +1,6 @@
 -- `write_refusal_of` meets its contract: by the test of the number.
-use mathlib.Core.Path.{_≡_, sym, ap, _∙_}
-use mathlib.Core.Bool.{Bool, cond}
-use mathlib.Core.List.{List}
-use Prim.Native.Nat.{ℕ}
 use borrow.Author.Tests.{eq-eqb, ne-eqb}
 use Rattle.question_record.specs.Record.{refusalRecord}
-use Rattle.little_endian.specs.Bytes.{written}
 use borrow.Author.Needs.{needs}
 use Rattle.question_record.proofs.write_refusal_of.Statement.{statement}
 use Rattle.question_record.proofs.write_refusal_of.Tie as tie

@@ -1,14 +1,12 @@
 -- `answer_slot` meets its contract: nothing is written where nothing came, and else the record of what came.
 use borrow.Author.Needs.{needs}
 use mathlib.Core.Path.{_≡_, sym, ap, _∙_}
-use mathlib.Core.List.{List}
 use Prim.Native.Nat.{ℕ}
 use native.Mathlib.Omega.{arith}
 use lib.Dec.{eqb}
 use lib.ListN.{length}
 use Rattle.little_endian.specs.Bytes.{written}
 use Rattle.records.specs.Layout.{questionSize}
-use Rattle.slot_records.specs.declared.SlotReply.{SlotReply}
 use Rattle.slot_records.specs.Inputs.{slotReply}
 use Rattle.slot_records.proofs.SlotSteps.{some-came, none-came, none-reply, none-written}
 use Rattle.slot_records.proofs.answer_slot.Statement.{statement}

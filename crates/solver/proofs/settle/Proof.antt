@@ -1,10 +1,10 @@
 -- `settle` meets its contract: the number of the first row that applies, or the answer over the buffer's start.
 use borrow.Author.Needs.{needs}
-use mathlib.Core.Path.{_≡_, refl, sym, ap, _∙_, subst}
+use mathlib.Core.Path.{_≡_, sym, ap, _∙_, subst}
 use mathlib.Core.List.{List, map}
-use Prim.Native.Nat.{ℕ, _+_, _≤_, _<_}
+use Prim.Native.Nat.{ℕ, _≤_}
 use native.Mathlib.Omega.{arith}
-use lib.ListN.{length, take}
+use lib.ListN.{take}
 use Rattle.little_endian.specs.Bytes.{written}
 use Rattle.records.specs.Layout.{mostEntries}
 use Rattle.records.specs.Records.{answerBytes}
@@ -15,10 +15,10 @@ use Rattle.sweep.specs.declared.Crossings.{Crossings}
 use Rattle.solver.specs.declared.Outcome.the-variants.{Answered}
 use Rattle.entries.specs.Entries.{entryFor, entryFinite, finiteFor, every}
 use Rattle.entries.proofs.Lists.{every-entry}
-use Rattle.solver.specs.Crossed.{sidesOf, entriesOf}
+use Rattle.solver.specs.Crossed.{sidesOf}
 use Rattle.solver.specs.Table.{lateChecks}
 use Rattle.solver.specs.Internals.{lateNumber}
-use Rattle.solver.specs.Solve.{Solved, settledOf}
+use Rattle.solver.specs.Solve.{Solved}
 use Rattle.solver.proofs.Numbering.{found, most-eight, number-is, few, entries-are, count-is, refused-is, answered-is}
 use Rattle.solver.proofs.settle.Statement.{statement}
 use Rattle.solver.proofs.settle.Tie as tie

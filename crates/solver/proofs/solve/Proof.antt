@@ -1,8 +1,6 @@
 -- `solve` meets its contract: the entrance's number, or what comes of the problem.
 use borrow.Author.Needs.{needs}
-use mathlib.Core.Path.{_≡_, sym, ap, _∙_}
-use mathlib.Core.List.{List}
-use Rattle.entrance.specs.Judge.{judgeOf}
+use mathlib.Core.Path.{sym, ap, _∙_}
 use Rattle.entrance.specs.declared.Judged.{Judged}
 use Rattle.solver.specs.Solve.{Solved, solvedAfter, solveOf}
 use Rattle.solver.proofs.solve.Statement.{statement}

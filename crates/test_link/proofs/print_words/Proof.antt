@@ -2,7 +2,6 @@
 use Prim.Native.Nat.{_-_}
 use borrow.Author.Needs.{needs}
 use lib.ListN.{length}
-use native.Mathlib.Omega.{arith}
 use Rattle.test_link.proofs.print_words.Statement.{statement}
 use Rattle.test_link.proofs.print_words.Tie as tie
 

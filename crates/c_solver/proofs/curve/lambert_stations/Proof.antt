@@ -1,5 +1,5 @@
 -- `lambert_stations` meets its contract: by what the entrance says.
-use mathlib.Core.Path.{_≡_, sym}
+use mathlib.Core.Path.{sym}
 use Rattle.c_solver.specs.Curve.{stationCount}
 use borrow.Author.Needs.{needs}
 use Rattle.c_solver.proofs.curve.lambert_stations.Statement.{statement}

@@ -1,5 +1,5 @@
 -- `lambert_time` meets its contract: by what the entrance says, and what the place is.
-use mathlib.Core.Path.{_≡_, sym}
+use mathlib.Core.Path.{sym}
 use mir.Facts.{toZ-ofZ}
 use Rattle.c_solver.specs.Curve.{timeBits}
 use borrow.Author.Needs.{needs}

@@ -1,5 +1,5 @@
 -- `lambert_wanted` meets its contract: by what the entrance says.
-use mathlib.Core.Path.{_≡_, sym}
+use mathlib.Core.Path.{sym}
 use Rattle.c_solver.specs.Curve.{wantedBits}
 use borrow.Author.Needs.{needs}
 use Rattle.c_solver.proofs.curve.lambert_wanted.Statement.{statement}

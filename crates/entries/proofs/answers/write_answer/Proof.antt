@@ -1,21 +1,20 @@
 -- `write_answer` meets its contract: the invariant is `soFar`, the buffer with the head and the first i entries; the measure is how
 -- many are left.
-use mathlib.Core.Path.{_≡_, refl, sym, ap, _∙_}
-use Prim.Native.Nat.{ℕ, _+_, _*_, _-_, _≤_, _<_, min}
+use mathlib.Core.Path.{_≡_, sym, ap, _∙_}
+use Prim.Native.Nat.{ℕ, _+_, _-_, _≤_, _<_}
 use native.Mathlib.Omega.{arith}
 use native.Mathlib.Nat.{le-refl}
 use borrow.Author.Needs.{needs}
 use mathlib.Core.List.{List}
-use borrow.Rule.Slice.PartMut.{midOf, putMid}
-use lib.ListN.{length, take, drop}
+use borrow.Rule.Slice.PartMut.{putMid}
+use lib.ListN.{length, take}
 use Rattle.little_endian.specs.Bytes.{written}
 use Rattle.little_endian.proofs.Laid.{laid-length, not-laid}
 use Rattle.records.specs.Layout.{mostEntries, answerSize}
-use Rattle.records.specs.Records.{headBytes, answerHeadOf, entryBytes, answerBytes}
+use Rattle.records.specs.Records.{headBytes, answerHeadOf, answerBytes}
 use Rattle.records.specs.declared.Head.{Head}
 use Rattle.records.specs.declared.Entry.{Entry}
 use Rattle.records.proofs.Sizes.{head-length}
-use Rattle.entries.specs.Entries.{unused}
 use Rattle.entries.proofs.Lists.{take-cut-count}
 use Rattle.entries.proofs.Written.{soFar, starts, size-at, goes-on, taken-size, ends}
 use Rattle.entries.proofs.answers.write_answer.Statement.{statement}

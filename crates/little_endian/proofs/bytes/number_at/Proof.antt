@@ -1,7 +1,7 @@
 -- `bytes::number_at` meets its contract. The loop's invariant: value is the number of the bytes that are passed, the highest ones, and
 -- has no more digits than they.
 -- The measure is the number of bytes that are left.
-use Prim.Native.Nat.{suc, _≤_, _<_, _+_, _-_, _*_, _^_}
+use Prim.Native.Nat.{_≤_, _<_, _+_, _-_, _*_, _^_}
 use mathlib.Core.Path.{_≡_, _∙_}
 use native.Mathlib.Nat.{sub-self, sub-zero, add-zero}
 use native.Mathlib.Omega.{arith}

@@ -1,7 +1,7 @@
 -- `tables::fits` meets its contract. The loop's invariant: the room that is left has to do for the widths that are left, as the whole
 -- room has for all.
 -- The measure is the number of widths that are left.
-use Prim.Native.Nat.{_≤_, _<_, _+_, _-_}
+use Prim.Native.Nat.{_≤_, _+_, _-_}
 use mathlib.Core.Path.{_≡_, sym}
 use native.Mathlib.Numerals.{add-one}
 use native.Mathlib.Omega.{arith}

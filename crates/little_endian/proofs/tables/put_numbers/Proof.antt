@@ -1,6 +1,5 @@
 -- `tables::put_numbers` meets its contract: without room nothing is stored, and with room the stores are the numbers' bytes.
-use mathlib.Core.Path.{_≡_, sym, _∙_}
-use native.Mathlib.Omega.{arith}
+use mathlib.Core.Path.{sym, _∙_}
 use borrow.Author.Needs.{needs}
 use borrow.Author.Tests.{leb-true}
 use Prim.Native.Nat.{_≤_}

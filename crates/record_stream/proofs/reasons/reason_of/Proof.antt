@@ -1,7 +1,7 @@
 -- `reason_of` meets its contract: the words for each number are the definition's.
 use borrow.Author.Needs.{needs}
 use borrow.Author.Tests.{ne-eqb}
-use mathlib.Core.Path.{_≡_, refl, sym, ap, _∙_}
+use mathlib.Core.Path.{_≡_, sym, ap}
 use Prim.Native.Nat.{ℕ}
 use native.Mathlib.Omega.{arith}
 use Rattle.record_stream.specs.Reasons.{textBytes, reasonOf}
