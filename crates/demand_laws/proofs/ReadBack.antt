@@ -1,34 +1,28 @@
 -- What an accepted answer holds fits the wire's fields, so that reading it gives back what was written.
--- An entry's lower end lies between two places of the grid, it was halved at most 20 times, and a velocity's components are results of
--- rounded
--- sums (`entry-held`). The head has the job and the revision of a question that is bytes (`head-held`).
+-- An entry's lower end lies between two places of the grid, and it was halved at most 20 times (`entry-held`). The head has the job and the
+-- revision of a question that is bytes (`head-held`).
 use mathlib.Core.Path.{_≡_, refl}
 use mathlib.Core.Bool.{Bool, true, false, cond}
 use mathlib.Core.Logic.{inl, inr}
 use mathlib.Core.List.{List, [], _∷_}
-use Prim.Native.Nat.{ℕ, zero, suc, _+_, _-_, _≤_, _<_, zero-le}
+use Prim.Native.Nat.{ℕ, zero, suc, _+_, _-_, _^_, _≤_, _<_, zero-le}
 use native.Mathlib.Omega.{arith}
 use lib.Dec.{ltb}
-use lib.Ieee.{Float, binary64}
-use lib.Ieee.Fits.{add-fits}
 use lib.IntN.{ℤ, pos, negsuc, _+ℤ_}
 use lib.ListN.{length, getD}
 use lib.Signed.{mag}
 use mir.Syntax.{w64}
 use mir.Val.{SFits}
-use Rattle.float64.specs.declared.Vector.{Vector}
 use Rattle.little_endian.specs.Bytes.{AreBytes}
 use Rattle.little_endian.proofs.Numbers.{number-lt}
 use Rattle.records.specs.Layout.{JOB, REVISION, mostEntries}
 use Rattle.records.specs.Records.{questionOf, answerHeadOf}
-use Rattle.records.specs.Ranges.{VectorHeld, HeadHeld, EntryHeld}
+use Rattle.records.specs.Ranges.{HeadHeld, EntryHeld}
 use Rattle.records.proofs.Reading.{answer-held}
 use Rattle.entrance.specs.declared.Problem.{Problem}
 use Rattle.stations.proofs.Grids.{grid-room}
 use Rattle.crossing_laws.specs.Listed.{Listed}
-use Rattle.velocity.specs.Velocities.{velocityOf, velocitiesOf}
-use Rattle.entries.specs.Entries.{velocitiesAt, velocitiesFor, entryFor}
-use Rattle.entries.proofs.Ends.{entry-names}
+use Rattle.entries.proofs.Ends.{bracket-entry-held}
 use Rattle.solver.specs.Crossed.{searchOf, gridOf}
 use Rattle.demand_laws.specs.Demand.{Counts, bracketAt, entryAt}
 use Rattle.demand_laws.proofs.Answered.{bracket-of}
@@ -71,10 +65,6 @@ mag-between a x y b k m n e f g =
 
 -- ---- an entry
 
-vector-held : (radial transverse : Float) (n u : Vector) → VectorHeld (velocityOf radial transverse n u)
-unfolding velocityOf
-vector-held radial transverse n u = record { x = add-fits binary64 _ _; y = add-fits binary64 _ _; z = add-fits binary64 _ _ }
-
 module _ (p : Problem) where
   lower-held : (i : ℕ) → Counts p i → SFits w64 (bracketAt p i .lower)
   lower-held i c =
@@ -89,15 +79,9 @@ module _ (p : Problem) where
       record { sfits = omega (arith, between, low-room, high-room) }
 
   pub entry-held : (i : ℕ) → Counts p i → EntryHeld (entryAt p i)
-  unfolding entryFor velocitiesFor velocitiesAt velocitiesOf
   entry-held i c =
-      record {
-        lower = lower-held i c;
-        halvings = omega (arith, bracket-of p i c .most);
-        chosen = omega (arith, entry-names p (bracketAt p i));
-        v1 = vector-held _ _ _ _;
-        v2 = vector-held _ _ _ _;
-      }
+      let small : bracketAt p i .halvings < 2 ^ 32 = omega (arith, bracket-of p i c .most) in
+      bracket-entry-held p (bracketAt p i) (lower-held i c) small
 
 -- ---- the head
 
