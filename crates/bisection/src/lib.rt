@@ -23,8 +23,8 @@ pub struct Bracket {
 }
 
 // The bracket of the stations i and i + 1: where the halving of this pair stops. `low` is the side of
-// station i, which the caller has worked out. The bracket's ends are on opposite sides if the pair's
-// are.
+// station i, which the caller has worked out. With that side the bracket's ends are on opposite sides
+// if the pair's are.
 pub fn bracket_of(search: Search, low: Side, i: u16) -> Bracket
     ensures { λ r. ⌜ r ≡ bracketFrom (sideAt search) low stations i ⌝ }
 {

@@ -18,14 +18,14 @@ unfoldable pub slotsWhile : (List ℕ → Bool) → ℕ → List ℕ → ℕ
 slotsWhile test zero b = 0
 slotsWhile test (suc n) b = cond (test b) (suc (slotsWhile test n (drop answerRoom b))) 0
 
--- how many of n slots come before the first whose length is 0
+-- whether the first slot begins with a length other than 0, and how many of n slots come before the first that does not
 abbrev pub hasLength : List ℕ → Bool
 hasLength b = not (eqb (valueOf LENGTH b) 0)
 
 abbrev pub slotsBeforeFree : ℕ → List ℕ → ℕ
 slotsBeforeFree n b = slotsWhile hasLength n b
 
--- how many of n slots come before a job
+-- whether the first slot is of a lower job, and how many of n slots come before a job
 abbrev pub isBelow : ℕ → List ℕ → Bool
 isBelow job b = ltb (jobOf b) job
 

@@ -18,8 +18,8 @@ unfoldable pub foundNumber : Crossings → ℕ
 foundNumber found = walkNumber (found .walk) + found .count
 
 -- the search for the wanted time with the bits w, in the triangle whose L has the bits b
-abbrev pub searchOf : ℕ → ℕ → ℕ → Search
-searchOf b revolutions w = record { triangle = withLambda b; revolutions = revolutions; wanted = bits w }
+abbrev pub searchFor : ℕ → ℕ → ℕ → Search
+searchFor b revolutions w = record { triangle = withLambda b; revolutions = revolutions; wanted = bits w }
 
 unfoldable pub sweepNumberOf : ℕ → ℕ → ℕ → ℕ
-sweepNumberOf b revolutions w = foundNumber (sweepFor (searchOf b revolutions w))
+sweepNumberOf b revolutions w = foundNumber (sweepFor (searchFor b revolutions w))

@@ -35,7 +35,7 @@ use Rattle.velocity.specs.Chosen.{upperChosen}
 use Rattle.entries.specs.Entries.{placeOf, takesUpper, velocitiesAt, velocitiesFor, finiteFor, endNumber}
 use Rattle.entries.specs.Entries.{entryFor, entryFinite, every}
 use Rattle.solver.specs.Crossed.{searchOf, sidesOf, gridOf, lastPlace, bracketsOf, entriesOf}
-use Rattle.demand_laws.specs.Demand.{Counts, pairsOf, bracketAt, entryAt, ChosenBy}
+use Rattle.demand_laws.specs.Demand.{IsCrossing, pairsOf, bracketAt, entryAt, ChosenBy}
 
 -- ---- bytes
 
@@ -168,13 +168,13 @@ module _ (p : Problem) where
   pub at-void : (k : ℤ) → isUnknown (sidesOf p k) ≡ true → placeOf p k ≡ Void
   at-void k e = void-by (placeOf p k) (p .wanted) (sym (ap isUnknown (side-is k)) ∙ e)
 
-  pub counts-crosses : (i : ℕ) → Counts p i → crosses (sidesOf p) (gridOf p) i ≡ true
+  pub counts-crosses : (i : ℕ) → IsCrossing p i → crosses (sidesOf p) (gridOf p) i ≡ true
   unfolding crosses
   counts-crosses i c =
       rw (side-at (gridOf p .place i) (c .lowerTime) (c .lowerIs), side-at (gridOf p .place (i + 1)) (c .upperTime) (c .upperIs))
       (different (c .lowerTime ≺ p .wanted) (c .upperTime ≺ p .wanted) (c .apart))
 
-  pub crosses-counts : (i : ℕ) → i < lastPlace p → crosses (sidesOf p) (gridOf p) i ≡ true → Counts p i
+  pub crosses-counts : (i : ℕ) → i < lastPlace p → crosses (sidesOf p) (gridOf p) i ≡ true → IsCrossing p i
   unfolding crosses
   crosses-counts i h e =
       let x = timed-at (gridOf p .place i) (lower-known (sidesOf p (gridOf p .place i)) (sidesOf p (gridOf p .place (i + 1))) e) in
@@ -191,7 +191,7 @@ module _ (p : Problem) where
 
   -- ---- the bracket and the chosen end of a pair
 
-  pub bracket-of : (i : ℕ) → Counts p i →
+  pub bracket-of : (i : ℕ) → IsCrossing p i →
       IsBracket (sidesOf p) (gridOf p .place i) (gridOf p .place (i + 1)) (gridOf p .halvings i) (bracketAt p i)
   bracket-of i h = bracket-holds (sidesOf p) (gridOf p) (grid-rises (searchOf p)) i (counts-crosses i h)
 
@@ -200,7 +200,7 @@ module _ (p : Problem) where
   unfolding takesUpper
   takes-is r a b e f = rw (e, f)
 
-  pub chosen-by : (i : ℕ) → Counts p i → ChosenBy p (bracketAt p i) (entryAt p i)
+  pub chosen-by : (i : ℕ) → IsCrossing p i → ChosenBy p (bracketAt p i) (entryAt p i)
   unfolding entryFor velocitiesFor
   chosen-by i h =
       let r = bracketAt p i in

@@ -36,7 +36,7 @@ use Rattle.solver.specs.declared.Outcome.the-variants.{Refused, Answered}
 use Rattle.solver.specs.Crossed.{searchOf, sidesOf, gridOf, lastPlace, entriesOf}
 use Rattle.solver.specs.Table.{anyVoid, allFinite, lateChecks}
 use Rattle.solver.specs.Solve.{Solved, refused, answered, settledOf, solvedAfter, solveOf}
-use Rattle.demand_laws.specs.Demand.{problemFrom, tableOf, rowOf, Demand1, Past, Counts, pairsOf, entryAt}
+use Rattle.demand_laws.specs.Demand.{problemFrom, tableOf, rowOf, Demand1, Past, IsCrossing, pairsOf, entryAt}
 use Rattle.demand_laws.specs.Demand.{FiniteAll, FiniteNot, TimedAll, VoidSome, NonePair, Pairs, Answer, Demand3}
 use Rattle.demand_laws.specs.Demand.{InDomain}
 use Rattle.solver.proofs.Numbering.{rows, rows-are}
@@ -177,7 +177,7 @@ module _ (s b : List ℕ) where
     of-row n e = late ∙ rows-are p ∙ e
 
     -- the tests in the demand's words
-    pair-listed : (i : ℕ) → Exactly (Listed i (pairsOf p)) (Counts p i)
+    pair-listed : (i : ℕ) → Exactly (Listed i (pairsOf p)) (IsCrossing p i)
     pair-listed i =
         let l = listed-exactly (sidesOf p) (gridOf p) (lastPlace p) i in
         record {
@@ -300,7 +300,7 @@ module _ (s b : List ℕ) where
           entry = entry-is n z e;
           entryRead = λ k h.
               let i = getD (pairsOf p) k 0 in
-              let counts : Counts p i = pair-listed i .only (listed-at (pairsOf p) k (omega (arith, many-is n e, h))) in
+              let counts : IsCrossing p i = pair-listed i .only (listed-at (pairsOf p) k (omega (arith, many-is n e, h))) in
               entry-read (drop (answerSize k) (solveOf s b .buffer)) (entryAt p i) (entry-is n z e k h) (entry-held p i counts);
           headRead = λ bytes. head-is n z e (head-held s n bytes (omega (arith, many-is n e, few z)));
         }

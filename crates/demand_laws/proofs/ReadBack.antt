@@ -24,7 +24,7 @@ use Rattle.stations.proofs.Grids.{grid-room}
 use Rattle.crossing_laws.specs.Listed.{Listed}
 use Rattle.entries.proofs.Ends.{bracket-entry-held}
 use Rattle.solver.specs.Crossed.{searchOf, gridOf}
-use Rattle.demand_laws.specs.Demand.{Counts, bracketAt, entryAt}
+use Rattle.demand_laws.specs.Demand.{IsCrossing, bracketAt, entryAt}
 use Rattle.demand_laws.proofs.Answered.{bracket-of}
 
 -- ---- a place between two others is at most as large as both together
@@ -66,7 +66,7 @@ mag-between a x y b k m n e f g =
 -- ---- an entry
 
 module _ (p : Problem) where
-  lower-held : (i : ℕ) → Counts p i → SFits w64 (bracketAt p i .lower)
+  lower-held : (i : ℕ) → IsCrossing p i → SFits w64 (bracketAt p i .lower)
   lower-held i c =
       let r = bracketAt p i in
       let b = bracket-of p i c in
@@ -78,7 +78,7 @@ module _ (p : Problem) where
       let high-room = grid-room (searchOf p) (i + 1) (omega (arith, c .within)) in
       record { sfits = omega (arith, between, low-room, high-room) }
 
-  pub entry-held : (i : ℕ) → Counts p i → EntryHeld (entryAt p i)
+  pub entry-held : (i : ℕ) → IsCrossing p i → EntryHeld (entryAt p i)
   entry-held i c =
       let small : bracketAt p i .halvings < 2 ^ 32 = omega (arith, bracket-of p i c .most) in
       bracket-entry-held p (bracketAt p i) (lower-held i c) small

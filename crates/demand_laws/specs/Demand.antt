@@ -72,7 +72,7 @@ pub record InDomain (p : Problem) : Type 0 where
   pub lambdaBelow : (magnitudeOf (p .triangle .lambda) ≺ 1F) ≡ true
 
 -- what counts: a neighbouring pair of places of the grid, i and i + 1, with both times known and just one of them below the wanted time
-pub record Counts (p : Problem) (i : ℕ) : Type 0 where
+pub record IsCrossing (p : Problem) (i : ℕ) : Type 0 where
   pub within : i < lastPlace p
   pub lowerTime : Float
   pub upperTime : Float
@@ -80,7 +80,8 @@ pub record Counts (p : Problem) (i : ℕ) : Type 0 where
   pub upperIs : placeOf p (gridOf p .place (i + 1)) ≡ Timed upperTime
   pub apart : (lowerTime ≺ p .wanted) ≡ not (upperTime ≺ p .wanted)
 
--- the pairs that count, each by the index of its lower place; the bracket and the entry of one
+-- the crossings of the sweep, each by the index of its lower place (`listed` says that they are the pairs of `IsCrossing`); the bracket and
+-- the entry of one
 abbrev pub pairsOf : Problem → List ℕ
 pairsOf p = crossings (sidesOf p) (gridOf p) (lastPlace p)
 
@@ -92,10 +93,10 @@ entryAt p i = entryFor p (bracketAt p i)
 
 -- every velocity of every such pair is finite, some is not; every place has a time, some has none; no pair counts
 abbrev pub FiniteAll : Problem → Type 0
-FiniteAll p = (i : ℕ) → Counts p i → entryFinite (entryAt p i) ≡ true
+FiniteAll p = (i : ℕ) → IsCrossing p i → entryFinite (entryAt p i) ≡ true
 
 abbrev pub FiniteNot : Problem → Type 0
-FiniteNot p = (i : ℕ) × (Counts p i × (entryFinite (entryAt p i) ≡ false))
+FiniteNot p = (i : ℕ) × (IsCrossing p i × (entryFinite (entryAt p i) ≡ false))
 
 abbrev pub TimedAll : Problem → Type 0
 TimedAll p = (i : ℕ) → i ≤ lastPlace p → (t : Float) × (placeOf p (gridOf p .place i) ≡ Timed t)
@@ -104,7 +105,7 @@ abbrev pub VoidSome : Problem → Type 0
 VoidSome p = (i : ℕ) × ((i ≤ lastPlace p) × (placeOf p (gridOf p .place i) ≡ Void))
 
 abbrev pub NonePair : Problem → Type 0
-NonePair p = (i : ℕ) → Counts p i → ⊥
+NonePair p = (i : ℕ) → IsCrossing p i → ⊥
 
 -- the entry of a bracket has the chosen end and the velocities that 01 gives for it: both ends have times, and the end with the smaller
 -- |T − T*| is taken, the lower on a tie
@@ -119,18 +120,18 @@ pub record ChosenBy (p : Problem) (r : Bracket) (e : Entry) : Type 0 where
 
 -- what the list of pairs, the bracket and the entry of each are, of any problem
 pub record Pairs (p : Problem) : Type 0 where
-  -- the list has exactly the pairs that count, in rising x
-  pub listed : (i : ℕ) → Exactly (Listed i (pairsOf p)) (Counts p i)
+  -- the list has exactly these pairs, in rising x
+  pub listed : (i : ℕ) → Exactly (Listed i (pairsOf p)) (IsCrossing p i)
   pub rising : Rising (pairsOf p)
   pub neighbours : (i : ℕ) → gridOf p .place (i + 1) ≡ gridOf p .place i +ℤ pos (2 ^ (20 - gridOf p .halvings i))
   -- a pair's bracket is the one that halving of the pair ends with, within the pair, its ends on opposite sides, one step wide or with a
   -- void middle
-  pub bracket : (i : ℕ) → Counts p i →
+  pub bracket : (i : ℕ) → IsCrossing p i →
       IsBracket (sidesOf p) (gridOf p .place i) (gridOf p .place (i + 1)) (gridOf p .halvings i) (bracketAt p i)
   pub lowerEnd : (i : ℕ) → entryAt p i .lower ≡ bracketAt p i .lower
   pub halvings : (i : ℕ) → entryAt p i .halvings ≡ bracketAt p i .halvings
   -- its entry's chosen end and velocities are those that 01 gives for that bracket
-  pub chosen : (i : ℕ) → Counts p i → ChosenBy p (bracketAt p i) (entryAt p i)
+  pub chosen : (i : ℕ) → IsCrossing p i → ChosenBy p (bracketAt p i) (entryAt p i)
 
 -- the bytes of an accepted answer: the record at the buffer's start, as many entries as pairs, the first for the lowest pair and so on,
 -- and the buffer's own bytes after it

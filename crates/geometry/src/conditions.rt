@@ -6,7 +6,7 @@ use crate::Shape;
 use crate::Triangle;
 use float64::is_finite;
 
-// Whether x is no finite number or lies outside low to high. Both ends are inside.
+// Whether x is not finite or lies outside low to high. Both ends are inside.
 pub fn outside(low: f64, high: f64, x: f64) -> bool
     ensures { λ r. ⌜ r ≡ outsideOf low high x ⌝ }
 {
@@ -20,7 +20,7 @@ pub fn radius_outside(shape: Shape) -> bool
     outside(1.0, LARGEST_LENGTH, shape.radius1) | outside(1.0, LARGEST_LENGTH, shape.radius2)
 }
 
-// 8: the positions span no plane, the sine of their angle being at most 2^-20.
+// 8: the positions span no plane: hh is at most 2^-40 of q1 times q2.
 pub fn no_plane(shape: Shape) -> bool
     ensures { λ r. ⌜ r ≡ noPlane shape ⌝ }
 {

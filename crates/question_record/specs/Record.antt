@@ -27,8 +27,8 @@ recordAfter question (Accepted p) =
 unfoldable pub recordOf : List ℕ → List ℕ
 recordOf question = recordAfter question (judgeOf question answerRoom)
 
--- what `write_record` returns, and what the buffer then holds: the record's size, and the record laid over the buffer's start; without
--- room for the longest answer 0, and the buffer untouched
+-- what `write_record` returns, and what the buffer then holds: the record's size, and the record laid over the buffer's start. Without room
+-- for the longest answer it is 0, and the buffer stays untouched: a choice of ours
 pub record Output : Type 0 where
   pub size : ℕ
   pub buffer : List ℕ

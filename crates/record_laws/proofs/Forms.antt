@@ -29,7 +29,7 @@ use Rattle.entries.proofs.Ends.{entry-names}
 use Rattle.solver.specs.Crossed.{sidesOf, gridOf, lastPlace, bracketsOf, entriesOf}
 use Rattle.solver.specs.Table.{crossingCount, anyVoid, allFinite, lateChecks}
 use Rattle.solver.proofs.Numbering.{rows, rows-are, few}
-use Rattle.record_laws.specs.RecordForm.{RecordForm, malformed as not-question, refusal, answer}
+use Rattle.record_laws.specs.RecordForm.{RecordForm, not-question, refusal, answer}
 
 -- ---- the rows 11 to 14
 

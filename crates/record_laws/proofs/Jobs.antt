@@ -17,7 +17,7 @@ use Rattle.records.proofs.RoundTrip.{head-back}
 use Rattle.records.proofs.Answers.{answer-head-back}
 use Rattle.records.proofs.Reading.{refusal-held, answer-held}
 use Rattle.entrance.specs.Table.{Exactly}
-use Rattle.record_laws.specs.RecordForm.{RecordForm, malformed, refusal, answer, notQuestion, JobNamed}
+use Rattle.record_laws.specs.RecordForm.{RecordForm, not-question, refusal, answer, notQuestion, JobNamed}
 use Rattle.record_laws.proofs.Forms.{record-form}
 
 zero-job : jobOf notQuestion ≡ 0
@@ -67,7 +67,7 @@ module _ (s : List ℕ) (bytes : AreBytes s) where
 
   -- a record is number 1's, or names the question's own job and revision
   either : {l : List ℕ} → RecordForm s l → (l ≡ notQuestion) ⊎ Own l
-  either malformed = inl refl
+  either not-question = inl refl
   either (refusal n low high above) = inr (refusal-own n (omega (arith, high)) above)
   either (answer es low high ends above) = inr (answer-own es high above)
 

@@ -13,11 +13,11 @@ use Rattle.outcomes.specs.Outcomes.{isOutcome}
 use Rattle.outcomes.proofs.Written.{refusal-outcome, answer-outcome}
 use Rattle.board.specs.Board.{SLOTS, isBoard, heldOn, boardOf, placed, boardRefusal, placedOn, postOf}
 use Rattle.board.specs.declared.Posted.the-variants.{Taken, Refused}
-use Rattle.record_laws.specs.RecordForm.{RecordForm, malformed, refusal, answer}
+use Rattle.record_laws.specs.RecordForm.{RecordForm, not-question, refusal, answer}
 use Rattle.record_laws.proofs.Forms.{record-form}
 
 form-outcome : (s : List ℕ) {l : List ℕ} → RecordForm s l → isOutcome l ≡ true
-form-outcome s malformed = refusal-outcome 0 0 1 (omega arith) (omega arith)
+form-outcome s not-question = refusal-outcome 0 0 1 (omega arith) (omega arith)
 form-outcome s (refusal n low high above) =
     refusal-outcome (jobOf s) (revisionOf s) n (omega (arith, low)) (omega (arith, high))
 form-outcome s (answer es low high ends above) = answer-outcome (jobOf s) (revisionOf s) es low high ends

@@ -17,7 +17,7 @@ notQuestion = refusalBytes 0 0 firstNumber
 -- the bytes that a question can get: number 1; a later number with the question's own job and revision; or an answer with them, of one to
 -- eight entries that each name an end. A question that gets past number 1 has a job other than 0
 pub data RecordForm (s : List ℕ) : List ℕ → Type 0 where
-  malformed : RecordForm s notQuestion
+  not-question : RecordForm s notQuestion
   refusal : (n : ℕ) → firstNumber < n → n ≤ lastNumber → 0 < jobOf s →
       RecordForm s (refusalBytes (jobOf s) (revisionOf s) n)
   answer : (es : List Entry) → 1 ≤ length es → length es ≤ mostEntries → ((e : Entry) → List·Memᴰ e es → e .chosen ≤ 1) →

@@ -14,11 +14,7 @@ use Rattle.board.specs.Posting.{postAll}
 use Rattle.record_stream.specs.declared.Start.{Start}
 use Rattle.record_stream.specs.declared.Start.the-variants.{End, Record, NoRecord}
 use Rattle.record_stream.proofs.Starts.{followed}
-use Rattle.record_stream.specs.Streams.{startOf, Stream, streamFrom, streamIn, streamOf, boardAfter, boardStep}
-
--- what stands first in an input
-abbrev pub startIn : List ℕ → Start
-startIn input = startOf (take (LENGTH .width) input)
+use Rattle.record_stream.specs.Streams.{startOf, startIn, Stream, followedBy, streamFrom, streamIn, streamOf, boardAfter, boardStep}
 
 -- ---- as many records as bytes are all
 
@@ -61,10 +57,6 @@ by-first [] = refl
 by-first (b ∷ bs) =
     later-same (startIn (b ∷ bs)) b bs (streamIn (length bs)) streamOf
     (λ input l. enough (length bs) (length input) input l (omega arith))
-
--- a record, and then a stream
-abbrev pub followedBy : List ℕ → Stream → Stream
-followedBy message later = record { records = message ∷ later .records; whole = later .whole }
 
 pub record-first : (message rest : List ℕ) → length message ≡ LENGTH .width + valueOf LENGTH message → length message ≤ answerRoom →
     streamOf (message ++ rest) ≡ followedBy message (streamOf rest)

@@ -11,14 +11,15 @@ unfoldable pub textBytes : String → List ℕ
 textBytes end = []
 textBytes (c then text) = code c ∷ textBytes text
 
--- B0 to B3, by their numbers
+-- B0 to B3, by their numbers; no words for any other
 unfoldable pub reasonOf : ℕ → List ℕ
 reasonOf number =
     cond (eqb number 0) (textBytes "B0: the board is not one")
     (cond (eqb number 1) (textBytes "B1: it is malformed")
-    (cond (eqb number 2) (textBytes "B2: its job is 0") (textBytes "B3: no slot is free for a new job")))
+    (cond (eqb number 2) (textBytes "B2: its job is 0")
+    (cond (eqb number 3) (textBytes "B3: no slot is free for a new job") [])))
 
--- a length that no record has
+-- a length above that of the longest record
 unfoldable pub lengthReason : List ℕ
 lengthReason = textBytes "B1: no record has its length, so nothing tells where the next starts, and no board is written"
 

@@ -15,14 +15,14 @@ use records::LENGTH_SIZE;
 const LONGEST_REST: usize = ANSWER_ROOM - LENGTH_SIZE;
 
 // What stands at a place of the input: its end; a record, and how many bytes of it follow those that were looked at; or a
-// length that no record has, so that nothing tells where the next record starts.
+// length above that of the longest record, so that nothing tells where the next one starts.
 pub enum Start {
     End,
     Record(usize),
     NoRecord,
 }
 
-// What stands where some bytes were read, no more than a length has. Fewer are the input's end.
+// What stands where some bytes were read: as many as a length has, or fewer at the input's end.
 pub fn start_of(head: &[u8]) -> Start
     ensures { λ r. ⌜ r ≡ startOf (now (head .entry)) ⌝ }
 {

@@ -9,7 +9,8 @@ ghost use Rattle.record_stream.specs.Reasons.{reasonOf, lengthReason, re
 // Room for the longest reason.
 pub const REASON_ROOM: usize = 93;
 
-// Puts the reason of a refusal, B0 to B3 by its number, into a buffer, with zeros after it, and returns its length.
+// Puts the reason of a refusal, B0 to B3 by its number, into a buffer, with zeros after it, and returns its size. Any
+// other number has none.
 pub fn reason_of(number: u8, out: &mut [u8; REASON_ROOM]) -> usize
     ensures size { λ r. ⌜ r ≡ length (reasonOf number) ⌝ }
     ensures buffer { λ _. ⌜ now (out .exit) ≡ padded reasonRoom (reasonOf number) ⌝ }
@@ -20,11 +21,12 @@ pub fn reason_of(number: u8, out: &mut [u8; REASON_ROOM]) -> usize
         0 => put(b"B0: the board is not one", out),
         1 => put(b"B1: it is malformed", out),
         2 => put(b"B2: its job is 0", out),
-        _ => put(b"B3: no slot is free for a new job", out),
+        3 => put(b"B3: no slot is free for a new job", out),
+        _ => put(b"", out),
     }
 }
 
-// The same for a length that no record has.
+// The same for a length above that of the longest record.
 pub fn length_reason(out: &mut [u8; REASON_ROOM]) -> usize
     ensures size { λ r. ⌜ r ≡ length lengthReason ⌝ }
     ensures buffer { λ _. ⌜ now (out .exit) ≡ padded reasonRoom lengthReason ⌝ }

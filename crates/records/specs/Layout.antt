@@ -133,7 +133,7 @@ entrySize = 64
 abbrev pub conflictSize : ℕ
 conflictSize = 14
 
--- a refusal with a number
+-- a refusal, by its number: each has the head alone
 abbrev pub refusalSize : ℕ → ℕ
 refusalSize number = headSize
 

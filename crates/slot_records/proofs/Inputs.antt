@@ -14,7 +14,7 @@ use Rattle.question_record.specs.Record.{recordOf}
 use Rattle.records.specs.Layout.{questionSize}
 use Rattle.records.specs.Records.{refusalBytes}
 use Rattle.question_record.proofs.OtherSizes.{other-size}
-use Rattle.slot_records.specs.Inputs.{slotsIn, slotsOf, recordsFor, recordsOf, slotRecord, slotReply}
+use Rattle.slot_records.specs.Inputs.{slotsIn, slotsOf, recordsFor, recordsOf, slotRecord, slotReply, BySteps}
 use Rattle.slot_records.proofs.SlotSteps.{some-came, none-came}
 
 no-bytes : (input : List ℕ) → length input ≡ 0 → input ≡ []
@@ -78,13 +78,8 @@ short-last s h k = one-slot s h (omega arith) ∙ other-size s (λ e. omega (ari
 
 -- ---- the steps make the whole
 
-abbrev pub Steps : List ℕ → Type 0
-Steps input =
-    let slot = take questionSize input in
-    recordsOf input ≡ slotRecord slot ++ cond (slotReply slot .another) (recordsOf (drop questionSize input)) []
-
 module _ (input : List ℕ) (some : 0 < length input) where
-  whole-slot : questionSize ≤ length input → Steps input
+  whole-slot : questionSize ≤ length input → BySteps input
   unfolding slotReply
   whole-slot h =
       let slot = take questionSize input in
@@ -92,7 +87,7 @@ module _ (input : List ℕ) (some : 0 < length input) where
       let record-is : slotRecord slot ≡ recordOf slot = some-came slot (λ z. omega (arith, n, z)) in
       rw (eq-eqb (length slot) questionSize n, record-is) (slot-first input some)
 
-  short-slot : length input < questionSize → Steps input
+  short-slot : length input < questionSize → BySteps input
   unfolding slotReply
   short-slot h =
       let all : take questionSize input ≡ input = take-all questionSize input (omega arith) in
@@ -100,11 +95,11 @@ module _ (input : List ℕ) (some : 0 < length input) where
       let other = ne-eqb (length input) questionSize (λ e. omega (arith, e, h)) in
       rw (all, other, record-is) (one-slot input some (omega arith) ∙ sym (append-nil (recordOf input)))
 
-pub records-by-steps : (input : List ℕ) → Steps input
+pub records-by-steps : (input : List ℕ) → BySteps input
 unfolding slotReply
 records-by-steps [] = empty-input ∙ sym (ap (λ (s : List ℕ). s ++ []) (none-came [] refl))
 records-by-steps (b ∷ bs) = by (leb questionSize (length (b ∷ bs))) refl
   where
-    by : (whole : Bool) → leb questionSize (length (b ∷ bs)) ≡ whole → Steps (b ∷ bs)
+    by : (whole : Bool) → leb questionSize (length (b ∷ bs)) ≡ whole → BySteps (b ∷ bs)
     by true e = whole-slot (b ∷ bs) (omega arith) (leb-true questionSize (length (b ∷ bs)) e)
     by false e = short-slot (b ∷ bs) (omega arith) (leb-false questionSize (length (b ∷ bs)) e)

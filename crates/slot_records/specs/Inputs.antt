@@ -1,5 +1,6 @@
 -- What is written for an input of slots, and what comes of one slot (01, Records on the wire). Definitions only.
 use Prim.Native.Nat.{ℕ, zero, suc}
+use mathlib.Core.Path.{_≡_}
 use mathlib.Core.Bool.{cond}
 use mathlib.Core.List.{List, [], _∷_, _++_}
 use lib.Dec.{eqb}
@@ -34,3 +35,9 @@ slotRecord came = cond (eqb (length came) 0) [] (recordOf came)
 -- how many bytes that is, and whether another slot may follow: a shorter one is the last
 unfoldable pub slotReply : List ℕ → SlotReply
 slotReply came = record { size = length (slotRecord came); another = eqb (length came) questionSize }
+
+-- the steps make the whole: the records of an input are what its first slot gives and, where another may follow, those of the rest
+abbrev pub BySteps : List ℕ → Type 0
+BySteps input =
+    let slot = take questionSize input in
+    recordsOf input ≡ slotRecord slot ++ cond (slotReply slot .another) (recordsOf (drop questionSize input)) []

@@ -9,7 +9,7 @@ ghost use Rattle.slot_records.specs.Inputs.{slotRecord, slotReply};
 use records::ANSWER_ROOM;
 use records::QUESTION_ROOM;
 
-// Puts the record of a question at the buffer's start, and returns its length.
+// Puts the record of a question at the buffer's start, and returns its size.
 pub fn record_of(question: &[u8], out: &mut [u8; ANSWER_ROOM]) -> usize
     ensures size { λ r. ⌜ r ≡ length (recordOf (now (question .entry))) ⌝ }
     ensures buffer { λ _. ⌜ now (out .exit) ≡ written (now (out .entry)) (recordOf (now (question .entry))) ⌝ }

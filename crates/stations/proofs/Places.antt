@@ -11,7 +11,8 @@ use lib.Signed.{mag}
 use mir.Syntax.{w64}
 use mir.Val.{SFits, toZ, ofZ}
 use mir.Facts.{toZ-ofZ}
-use Rattle.stations.specs.Stations.{stationSpacing, stationsBelow, lastJ, stationOf, lastOf, farthest}
+use Rattle.flight_time.specs.Steps.{stationSpacing}
+use Rattle.stations.specs.Stations.{stationsBelow, lastJ, stationOf, lastOf, farthest}
 
 mag-cond : (c : Bool) (x y : ℤ) (n : ℕ) → (T c → mag x ≤ n) → (T (not c) → mag y ≤ n) → mag (cond c x y) ≤ n
 mag-cond true x y n f g = f tt

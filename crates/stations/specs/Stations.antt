@@ -3,10 +3,7 @@ use Prim.Native.Nat.{ℕ, _+_, _^_}
 use mathlib.Core.Bool.{cond}
 use lib.Dec.{eqb}
 use lib.IntN.{ℤ, pos, _-ℤ_, _*ℤ_}
-
--- stations are k = j·2^20
-abbrev pub stationSpacing : ℕ
-stationSpacing = 2 ^ 20
+use Rattle.flight_time.specs.Steps.{stationSpacing}
 
 -- so many stations lie below k = 0: j begins at -4095
 abbrev pub stationsBelow : ℕ

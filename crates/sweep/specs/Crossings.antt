@@ -1,5 +1,5 @@
--- Crossings and their brackets (01, Stations, sides, crossings), over the side of each place; no time stands in these definitions, and
--- nothing that a loop keeps. Definitions only.
+-- Crossings and their brackets (01, Stations, sides, crossings), over the side of each place: no time stands in these definitions, but
+-- for the last, and nothing that a loop keeps. Definitions only.
 use Prim.Native.Nat.{ℕ, zero, suc, _+_, _-_, min}
 use mathlib.Core.Bool.{Bool, false, cond, _||_}
 use mathlib.Core.List.{List, [], _∷_, _++_, map}

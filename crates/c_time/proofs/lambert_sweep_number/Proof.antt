@@ -11,7 +11,7 @@ use Rattle.sweep.specs.declared.Crossings.{Crossings}
 use Rattle.stations.specs.declared.side.Side.{Side}
 use Rattle.sweep.specs.declared.Walk.{Walk}
 use Rattle.sweep.specs.declared.Walk.the-variants.{AllTimed, SomeVoid, NinthFound}
-use Rattle.c_time.specs.SweepNumber.{walkNumber, foundNumber, searchOf, sweepNumberOf}
+use Rattle.c_time.specs.SweepNumber.{walkNumber, foundNumber, searchFor, sweepNumberOf}
 use Rattle.c_time.proofs.lambert_sweep_number.Statement.{statement}
 use Rattle.c_time.proofs.lambert_sweep_number.Tie as tie
 
@@ -28,7 +28,7 @@ walk-small NinthFound = omega arith
 found-is :
     (c : tie.After-find-crossings) →
     let a = c .before .before .before .args in
-    c .find-crossings .result ≡ sweepFor (searchOf (a .b) (a .revolutions) (a .w))
+    c .find-crossings .result ≡ sweepFor (searchFor (a .b) (a .revolutions) (a .w))
 found-is c = simp (c .before .before .with-lambda .ensures, c .before .from-bits .ensures) at (c .find-crossings .ensures)
 
 with-lambda-requires : tie.Need-with-lambda-requires

@@ -10,7 +10,8 @@ use lib.Signed.{mag}
 use mir.Syntax.{w64}
 use mir.Val.{SFits, toZ, ofZ}
 use mir.Facts.{toZ-ofZ, toZ-pos}
-use Rattle.stations.specs.Stations.{stationSpacing, stationOf}
+use Rattle.flight_time.specs.Steps.{stationSpacing}
+use Rattle.stations.specs.Stations.{stationOf}
 use Rattle.stations.proofs.Places.{mag-from, mag-times}
 use Rattle.stations.proofs.station.Statement.{statement}
 use Rattle.stations.proofs.station.Tie as tie
