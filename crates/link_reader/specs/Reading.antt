@@ -1,8 +1,8 @@
 -- The reader of questions that come over a link in pieces (02, A2): its state, and what one call makes of a piece. Definitions only.
 use Prim.Native.Nat.{ℕ, _-_}
-use mathlib.Core.Bool.{Bool, true, false, cond, not, _||_}
+use mathlib.Core.Bool.{Bool, true, false, cond, not, _||_, _&&_}
 use mathlib.Core.List.{List, [], _∷_, _++_}
-use lib.Dec.{eqb, ltb}
+use lib.Dec.{eqb, ltb, leb}
 use lib.ListN.{length, take, replicate}
 use Rattle.little_endian.specs.Bytes.{written}
 use Rattle.records.specs.Layout.{LENGTH, questionLengths, questionRoom, valueOf, sizeOf}
@@ -53,6 +53,15 @@ refusalOf (Question size) = []
 refusalOf Nothing = []
 refusalOf BadLength = number 1 ∷ []
 refusalOf NeedsReset = numberB 4 ∷ []
+
+-- whether the bytes held have the four bytes of a length that is not in force
+abbrev pub hasBadLength : List ℕ → Bool
+hasBadLength held = leb (LENGTH .width) (length held) && not (isQuestionLength (valueOf LENGTH held))
+
+-- the refusal that a piece gets: B4 if a length was refused since the last reset; number 1 if the kept bytes and the piece
+-- have a length that is not in force; none otherwise
+unfoldable pub refusalFor : Reader → List ℕ → List Refusal
+refusalFor r piece = cond (r .refused) (numberB 4 ∷ []) (cond (hasBadLength (keptOf r ++ piece)) (number 1 ∷ []) [])
 
 -- the size of a finished question, 0 where none is finished
 abbrev pub sizeGiven : Came → ℕ

@@ -5,7 +5,7 @@ ghost use Prim.Native.Nat.{_+_, _≤_};
 ghost use lib.ListN.{length};
 ghost use lib.Seq.{paste};
 ghost use Rattle.records.specs.Layout.{questionRoom};
-ghost use Rattle.link_reader.specs.Reading.{keptOf, asNew, readOf, stepBy};
+ghost use Rattle.link_reader.specs.Reading.{keptOf, asNew, readOf, stepBy, refusalOf, refusalFor};
 ghost use Rattle.link_reader.specs.declared.Came.the-variants.{Question, Nothing};
 
 mod judging;
@@ -61,7 +61,8 @@ impl Reader {
 
     // Takes a piece, of any number of bytes.
     pub fn read(self, piece: &[u8]) -> Step
-        ensures { λ r. ⌜ r ≡ readOf self (now (piece .entry)) ⌝ }
+        ensures step { λ r. ⌜ r ≡ readOf self (now (piece .entry)) ⌝ }
+        ensures refusal { λ r. ⌜ refusalOf (r .came) ≡ refusalFor self (now (piece .entry)) ⌝ }
     {
         match came_of(self, piece) {
             Came::Question(size) => finished(self, piece, size),

@@ -1,4 +1,4 @@
--- `Reader::read` meets its contract: what came decides which step it is.
+-- `Reader::read` meets its contract: what came decides which step it is, and the step says which refusal it gives.
 use mathlib.Core.Path.{_≡_, refl, sym, ap, _∙_}
 use mathlib.Core.List.{List}
 use Prim.Native.Nat.{ℕ}
@@ -6,16 +6,21 @@ use native.Mathlib.Omega.{arith}
 use borrow.Author.Needs.{needs}
 use lib.ListN.{length-append}
 use Rattle.link_reader.specs.declared.Reader.{Reader}
+use Rattle.link_reader.specs.declared.Step.{Step}
 use Rattle.link_reader.specs.declared.Came.{Came}
-use Rattle.link_reader.specs.Reading.{keptOf, cameOf, stepBy, readOf}
+use Rattle.link_reader.specs.Reading.{keptOf, refusalOf, refusalFor, cameOf, stepBy, readOf}
 use Rattle.link_reader.proofs.Verdicts.{came-verdict, part-fits, whole-fits}
+use Rattle.link_reader.proofs.Refusals.{refusal-given}
 use Rattle.link_reader.proofs.Reader.read.Statement.{statement}
 use Rattle.link_reader.proofs.Reader.read.Tie as tie
 
--- the step by what came is the step
-read-by : (r : Reader) (piece : List ℕ) {came told : Came} → told ≡ cameOf r piece → told ≡ came → stepBy came r piece ≡ readOf r piece
+-- a step by what came is the step that is promised, and has the refusal that is promised
+read-by : (r : Reader) (piece : List ℕ) {came told : Came} {s : Step} → s ≡ stepBy came r piece → told ≡ cameOf r piece → told ≡ came
+    → (s ≡ readOf r piece) × (refusalOf (s .came) ≡ refusalFor r piece)
 unfolding readOf
-read-by r piece e f = ap (λ (k : Came). stepBy k r piece) (sym f ∙ e)
+read-by r piece is e f =
+    let step = is ∙ ap (λ (k : Came). stepBy k r piece) (sym f ∙ e) in
+    (step, refusal-given r piece step)
 
 came-of-requires : tie.Need-came-of-requires
 came-of-requires c κs = search needs
@@ -50,26 +55,26 @@ returns c =
     let told = c .before .before in
     let judged = told .before .before in
     let a = judged .before .before .args in
-    c .finished .ensures ∙ read-by (a .self) (a .piece .now) (judged .came-of .ensures) (told .size .given .1)
+    read-by (a .self) (a .piece .now) (c .finished .ensures) (judged .came-of .ensures) (told .size .given .1)
 
 returns-2 : tie.Need-returns-2
 returns-2 c =
     let told = c .before in
     let judged = told .before .before in
     let a = judged .before .before .args in
-    c .kept .ensures ∙ read-by (a .self) (a .piece .now) (judged .came-of .ensures) (told .enum-told .given .1)
+    read-by (a .self) (a .piece .now) (c .kept .ensures) (judged .came-of .ensures) (told .enum-told .given .1)
 
 returns-3 : tie.Need-returns-3
 unfolding stepBy
 returns-3 c =
     let a = c .before .before .before .before .args in
-    read-by (a .self) (a .piece .now) (c .before .before .came-of .ensures) (c .enum-told2 .given .1)
+    read-by (a .self) (a .piece .now) refl (c .before .before .came-of .ensures) (c .enum-told2 .given .1)
 
 returns-4 : tie.Need-returns-4
 unfolding stepBy
 returns-4 c =
     let a = c .before .before .before .before .args in
-    read-by (a .self) (a .piece .now) (c .before .before .came-of .ensures) (c .enum-told3 .given .1)
+    read-by (a .self) (a .piece .now) refl (c .before .before .came-of .ensures) (c .enum-told3 .given .1)
 
 pub read-spec : {M : Type 1} → statement M
 read-spec =
