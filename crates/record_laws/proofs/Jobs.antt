@@ -1,28 +1,30 @@
 -- The job and the revision of the record of a question that is bytes (`job-named`): by the three forms of a record, each of which reads
 -- back what its head says.
-use mathlib.Core.Path.{_≡_, refl, sym, ap, _∙_}
+use mathlib.Core.Path.{_≡_, refl, ap, _∙_}
 use mathlib.Core.Logic.{_⊎_, inl, inr}
-use mathlib.Core.List.{List, [], append-nil}
+use mathlib.Core.List.{List}
 use Prim.Native.Nat.{ℕ, _^_, _≤_, _<_}
 use native.Mathlib.Omega.{arith}
 use lib.ListN.{length}
 use Rattle.question_record.specs.Record.{recordOf}
-use Rattle.little_endian.specs.Bytes.{AreBytes, numberAt, bytesOf}
+use Rattle.little_endian.specs.Bytes.{AreBytes}
 use Rattle.little_endian.proofs.Numbers.{number-lt}
-use Rattle.records.specs.Layout.{JOB, REVISION, mostEntries, encode, headFields, jobOf, revisionOf}
-use Rattle.records.specs.Records.{headOf, headBytes, refusalHeadOf, refusalBytes, answerHeadOf, answerBytes}
+use Rattle.records.specs.Layout.{JOB, REVISION, mostEntries, firstNumber, jobOf, revisionOf}
+use Rattle.records.specs.Records.{headOf, refusalHeadOf, refusalBytes, answerHeadOf, answerBytes}
 use Rattle.records.specs.declared.Head.{Head}
 use Rattle.records.specs.declared.Entry.{Entry}
 use Rattle.records.proofs.RoundTrip.{head-back}
 use Rattle.records.proofs.Answers.{answer-head-back}
-use Rattle.records.proofs.Reading.{refusal-held, answer-held}
+use Rattle.records.proofs.Reading.{refusal-held, refusal-head-read, answer-held}
 use Rattle.entrance.specs.Table.{Exactly}
 use Rattle.record_laws.specs.RecordForm.{RecordForm, not-question, refusal, answer, notQuestion, JobNamed}
 use Rattle.record_laws.proofs.Forms.{record-form}
 
 zero-job : jobOf notQuestion ≡ 0
-unfolding refusalBytes refusalHeadOf headBytes encode headFields bytesOf numberAt
-zero-job = refl
+unfolding headOf refusalHeadOf
+zero-job =
+    let held = refusal-held 0 0 (omega arith) (omega arith) firstNumber (omega arith) in
+    ap (λ (x : Head). x .job) (refusal-head-read 0 0 firstNumber held)
 
 module _ (s : List ℕ) (bytes : AreBytes s) where
   -- the question's job and revision are numbers of four bytes
@@ -51,12 +53,11 @@ module _ (s : List ℕ) (bytes : AreBytes s) where
       record { jobIs = ap (λ (x : Head). x .job) e ∙ f; revisionIs = ap (λ (x : Head). x .revision) e ∙ g; above = above }
 
   refusal-own : (n : ℕ) → n < 2 ^ 16 → 0 < job → Own (refusalBytes job revision n)
-  unfolding refusalBytes refusalHeadOf
+  unfolding refusalHeadOf
   refusal-own n small above =
-      let h = refusalHeadOf job revision n in
       let held = refusal-held job revision small-job small-revision n small in
-      let back : headOf (headBytes h) ≡ h = ap headOf (sym (append-nil (headBytes h))) ∙ head-back h [] held in
-      own-by (headBytes h) h back refl refl above
+      let back = refusal-head-read job revision n held in
+      own-by (refusalBytes job revision n) (refusalHeadOf job revision n) back refl refl above
 
   answer-own : (es : List Entry) → length es ≤ mostEntries → 0 < job → Own (answerBytes job revision es)
   unfolding answerHeadOf

@@ -1,12 +1,13 @@
--- What a reader of a record's bytes finds, whatever follows them: an entry (`entry-read`) and an answer's head (`answer-head-read`).
+-- What a reader of a record's bytes finds: an entry (`entry-read`) and an answer's head (`answer-head-read`), whatever follows them, and a
+-- refusal's head (`refusal-head-read`).
 -- The heads of refusals and of answers fit their fields where job and revision do (`refusal-held`, `answer-held`).
 use mathlib.Core.Path.{_≡_, sym, ap, _∙_}
-use mathlib.Core.List.{List, _++_, append-assoc}
+use mathlib.Core.List.{List, [], _++_, append-assoc, append-nil}
 use Prim.Native.Nat.{ℕ, _^_, _≤_, _<_}
 use native.Mathlib.Omega.{arith}
 use lib.ListN.{length, take, drop, take-append-drop}
 use Rattle.records.specs.Layout.{entrySize, mostEntries}
-use Rattle.records.specs.Records.{headOf, headBytes, refusalHeadOf, answerHeadOf, entryOf, entryBytes, entriesBytes, answerBytes}
+use Rattle.records.specs.Records.{headOf, headBytes, refusalHeadOf, refusalBytes, answerHeadOf, entryOf, entryBytes, entriesBytes, answerBytes}
 use Rattle.records.specs.Ranges.{HeadHeld, EntryHeld}
 use Rattle.records.specs.declared.Entry.{Entry}
 use Rattle.records.proofs.RoundTrip.{head-back, entry-back}
@@ -25,6 +26,13 @@ module _ (job revision : ℕ) where
   answer-head-read es after h =
       let head = answerHeadOf job revision (length es) in
       ap headOf (append-assoc (headBytes head) (entriesBytes es) after) ∙ head-back head (entriesBytes es ++ after) h
+
+  pub refusal-head-read : (number : ℕ) → HeadHeld (refusalHeadOf job revision number) →
+      headOf (refusalBytes job revision number) ≡ refusalHeadOf job revision number
+  unfolding refusalBytes
+  refusal-head-read number h =
+      let head = refusalHeadOf job revision number in
+      ap headOf (sym (append-nil (headBytes head))) ∙ head-back head [] h
 
   module _ (small-job : job < 2 ^ 32) (small-revision : revision < 2 ^ 32) where
     pub refusal-held : (number : ℕ) → number < 2 ^ 16 → HeadHeld (refusalHeadOf job revision number)
