@@ -3,9 +3,11 @@
 // record has, a message is written there too, and no board.
 ghost use mathlib.Core.Path.{_≡_};
 ghost use Prim.Native.Nat.{_≤_};
-ghost use lib.ListN.{length};
+ghost use lib.ListN.{length, take};
 ghost use Rattle.records.specs.Layout.{LENGTH, answerRoom};
 ghost use Rattle.record_stream.specs.Streams.{longestRest};
+ghost use Rattle.post.specs.declared.Next.the-variants.{Failed};
+ghost use Rattle.post.specs.Posting.{AfterRest, AfterHead};
 use board::BOARD_SIZE;
 use board::Posted;
 use libc::STDERR_FILENO;
@@ -68,6 +70,8 @@ fn post_next(board: &mut [u8], bytes: &mut [u8], place: u64) -> Next
 fn post_after(board: &mut [u8], bytes: &mut [u8], n: usize, place: u64) -> Next
     requires room { ⌜ length (now bytes) ≡ answerRoom ⌝ }
     requires head { ⌜ n ≤ LENGTH .width ⌝ }
+    ensures kept { λ _. ⌜ take n (now (bytes .exit)) ≡ take n (now (bytes .entry)) ⌝ }
+    ensures board { λ r. ⌜ AfterHead n place (now (board .entry)) (now (bytes .exit)) (now (board .exit)) r ⌝ }
 {
     match record_stream::start_of(&bytes[..n]) {
         Start::End => Next::End,
@@ -84,6 +88,8 @@ fn post_rest(board: &mut [u8], bytes: &mut [u8], n: usize, rest: usize, place: u
     requires room { ⌜ length (now bytes) ≡ answerRoom ⌝ }
     requires head { ⌜ n ≤ LENGTH .width ⌝ }
     requires rest { ⌜ rest ≤ longestRest ⌝ }
+    ensures kept { λ _. ⌜ take n (now (bytes .exit)) ≡ take n (now (bytes .entry)) ⌝ }
+    ensures board { λ r. ⌜ AfterRest n rest place (now (board .entry)) (now (bytes .exit)) (now (board .exit)) r ⌝ }
 {
     let end = n + rest;
     match standard_input::fill(&mut bytes[n..end]) {
@@ -96,7 +102,9 @@ fn post_rest(board: &mut [u8], bytes: &mut [u8], n: usize, rest: usize, place: u
     }
 }
 
-fn cannot_read() -> Next {
+fn cannot_read() -> Next
+    ensures { λ r. ⌜ r ≡ Failed ⌝ }
+{
     os::fail(b"post: standard input cannot be read");
     Next::Failed
 }

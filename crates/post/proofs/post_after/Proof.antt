@@ -1,8 +1,10 @@
--- `post_after` is safe: the bytes that are looked at lie within the buffer, and a record's rest fits it.
-use mathlib.Core.Path.{sym, _∙_}
+-- `post_after` is safe: the bytes that are looked at lie within the buffer, and a record's rest fits it. It meets its contract by
+-- what stands at the place, and `post_rest` keeps the bytes that tell this.
+use mathlib.Core.Path.{refl, sym, ap, _∙_}
 use native.Mathlib.Omega.{arith}
 use borrow.Author.Needs.{needs}
 use lib.Seq.{length-take-le}
+use Rattle.record_stream.specs.Streams.{startOf}
 use Rattle.record_stream.proofs.Starts.{rest-short}
 use Rattle.post.proofs.post_after.Statement.{statement}
 use Rattle.post.proofs.post_after.Tie as tie
@@ -20,8 +22,28 @@ post-rest-requires c κs =
     let short = rest-short _ (told .rest .given .0 .0) (sym (looked .start-of .ensures) ∙ told .rest .given .1) in
     (start .pre .0, (start .pre .1, short))
 
+returns : tie.Need-returns
+returns c =
+    let looked = c .before .before in
+    (refl, rw (sym (looked .start-of .ensures) ∙ c .enum-told .given .1) (refl, refl))
+
+returns-2 : tie.Need-returns-2
+returns-2 c =
+    let posted = c .before .before .before .before in
+    let told = posted .before .before .before .before in
+    let looked = told .before .before in
+    let kept = posted .post-rest .ensures .0 in
+    let is = ap startOf kept ∙ sym (looked .start-of .ensures) ∙ told .rest .given .1 in
+    (kept, rw is (posted .post-rest .ensures .1))
+
+returns-3 : tie.Need-returns-3
+returns-3 c =
+    let told = c .before in
+    let looked = told .before .before in
+    (refl, rw (sym (looked .start-of .ensures) ∙ told .enum-told2 .given .1) (refl, refl))
+
 pub post-after-spec : {M : Type 1} → statement M
 post-after-spec =
     tie.close
     (tie.spec (search needs) slice-aggregate-start-of (search needs) (search needs) (search needs) post-rest-requires (search needs)
-    (search needs) (search needs) (search needs) (search needs) (search needs) (search needs) (search needs) (search needs))
+    (search needs) (search needs) returns (search needs) (search needs) returns-2 (search needs) returns-3)
