@@ -6,5 +6,5 @@ use Rattle.lambert.proofs.main.Tie as tie
 pub main-spec : {M : Type 1} → statement M
 main-spec =
     tie.close
-    (tie.spec (λ _ _. Unit {0}) (λ _ left. left) (search needs)
+    (tie.spec (λ _ _. Unit {0}) (λ _ left. left) (search needs) (search needs) (search needs) (search needs) (search needs)
     (search needs) (search needs) (search needs) (search needs) (search needs) (search needs))
