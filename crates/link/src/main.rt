@@ -2,10 +2,12 @@
 // question to standard output. A length that no question has is number 1, and nothing is read after it; a question that the
 // input's end cuts short is number 1 too.
 ghost use mathlib.Core.Path.{_≡_};
+ghost use mathlib.Core.Bool.{true};
 ghost use Prim.Native.Nat.{_≤_};
 ghost use lib.ListN.{length};
 ghost use Rattle.records.specs.Layout.{questionRoom};
 ghost use Rattle.link_reader.specs.Reading.{sizeGiven};
+ghost use Rattle.link.specs.Pieces.{readerAfter};
 use libc::STDERR_FILENO;
 use libc::STDOUT_FILENO;
 use link_reader::Came;
@@ -132,8 +134,11 @@ fn cannot_read(reader: Reader) -> Fed {
     }
 }
 
-// Hands in a piece, and again what was not taken of it. Each call takes a byte at least, so the calls do for it.
-fn feed(reader: Reader, piece: &[u8]) -> Fed {
+// Hands in a piece, and again what was not taken of it. Each call takes a byte at least, so the calls do for it. Where more is
+// to be read, the reader is the one that the whole piece leads to.
+fn feed(reader: Reader, piece: &[u8]) -> Fed
+    ensures { λ r. ⌜ (r .more ≡ true → r .reader ≡ readerAfter reader (now (piece .entry))) ⌝ }
+{
     let mut fed = Fed {
         reader,
         more: true,
