@@ -1,9 +1,11 @@
--- What `post` does with one record of its input: what becomes of the board, by what is told of the next record. Definitions only.
+-- What `post` does with its input: what becomes of the board, by what is told of the next record. Definitions only.
 use Prim.Native.Nat.{ℕ, _+_, _≤_, _%_, _^_}
 use mathlib.Core.Path.{_≡_}
 use mathlib.Core.List.{List}
 use lib.ListN.{take}
+use Rattle.records.specs.Layout.{LENGTH}
 use Rattle.board.specs.Board.{postOf}
+use Rattle.board.specs.Posting.{postAll}
 use Rattle.record_stream.specs.declared.Start.{Start}
 use Rattle.record_stream.specs.declared.Start.the-variants as start
 use Rattle.record_stream.specs.Streams.{startOf}
@@ -35,3 +37,14 @@ AfterStart start.NoRecord n place board buffer after next = (next ≡ Failed) ×
 -- the same by the first n bytes of the buffer, which tell what stands there
 abbrev pub AfterHead : (n place : ℕ) (board buffer after : List ℕ) → Next → Type 0
 AfterHead n place board buffer after next = AfterStart (startOf (take n buffer)) n place board buffer after next
+
+-- the same where nothing of the record was there: no more first bytes are read than a length has, or the board stays where
+-- they can't be read
+pub data AfterNext (place : ℕ) (board buffer after : List ℕ) (next : Next) : Type 0 where
+  unread : next ≡ Failed → after ≡ board → AfterNext place board buffer after next
+  begun : (n : ℕ) → n ≤ LENGTH .width → AfterHead n place board buffer after next → AfterNext place board buffer after next
+
+-- a board that comes of another by posting records alone
+pub record PostedOn (board after : List ℕ) : Type 0 where
+  pub records : List (List ℕ)
+  pub posts : after ≡ postAll board records

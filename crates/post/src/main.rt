@@ -7,7 +7,7 @@ ghost use lib.ListN.{length, take};
 ghost use Rattle.records.specs.Layout.{LENGTH, answerRoom};
 ghost use Rattle.record_stream.specs.Streams.{longestRest};
 ghost use Rattle.post.specs.declared.Next.the-variants.{Failed};
-ghost use Rattle.post.specs.Posting.{AfterRest, AfterHead};
+ghost use Rattle.post.specs.Posting.{AfterRest, AfterHead, AfterNext, PostedOn};
 use board::BOARD_SIZE;
 use board::Posted;
 use libc::STDERR_FILENO;
@@ -35,7 +35,9 @@ fn main() {
 
 // Posts every record, and answers whether the input was read to its end. A proved loop has to end, and nothing says that
 // the input does: the count is one that no input reaches.
-fn post_all(board: &mut [u8]) -> bool {
+fn post_all(board: &mut [u8]) -> bool
+    ensures { λ _. ⌜ PostedOn (now (board .entry)) (now (board .exit)) ⌝ }
+{
     let mut bytes = [0u8; ANSWER_ROOM];
     let mut rounds_left = u64::MAX;
     let mut place: u64 = 0;
@@ -59,6 +61,7 @@ fn post_all(board: &mut [u8]) -> bool {
 // Posts the record at a place of the input, read into a buffer: the length that it begins with, and then the rest.
 fn post_next(board: &mut [u8], bytes: &mut [u8], place: u64) -> Next
     requires { ⌜ length (now bytes) ≡ answerRoom ⌝ }
+    ensures { λ r. ⌜ AfterNext place (now (board .entry)) (now (bytes .exit)) (now (board .exit)) r ⌝ }
 {
     match standard_input::fill(&mut bytes[..LENGTH_SIZE]) {
         Got::Failed => cannot_read(),
