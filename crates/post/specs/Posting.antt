@@ -14,7 +14,7 @@ use Rattle.post.specs.declared.Next.the-variants.{At, End, Failed}
 
 -- one record is posted: it stands first in the buffer, n bytes of it and up to as many more as its length says. The next one
 -- starts behind it, and places are counted modulo 2^64
-pub record Posted (n rest place next : ℕ) (board buffer after : List ℕ) : Type 0 where
+pub record RecordPosting (n rest place next : ℕ) (board buffer after : List ℕ) : Type 0 where
   pub size : ℕ
   pub least : n ≤ size
   pub most : size ≤ n + rest
@@ -24,11 +24,11 @@ pub record Posted (n rest place next : ℕ) (board buffer after : List ℕ) : Ty
 -- what becomes of a board once the rest of a record is read, of which n bytes were there: the record is posted, or the board
 -- stays where the rest can't be read
 abbrev pub AfterRest : (n rest place : ℕ) (board buffer after : List ℕ) → Next → Type 0
-AfterRest n rest place board buffer after (At next) = Posted n rest place next board buffer after
+AfterRest n rest place board buffer after (At next) = RecordPosting n rest place next board buffer after
 AfterRest n rest place board buffer after End = ⊥
 AfterRest n rest place board buffer after Failed = after ≡ board
 
--- the same by what stands at the place: the board stays at the input's end, and where a length is one that no record has
+-- the same by what stands at the place: the board stays at the input's end, and where a length is above that of the longest record
 abbrev pub AfterStart : Start → (n place : ℕ) (board buffer after : List ℕ) → Next → Type 0
 AfterStart start.End n place board buffer after next = (next ≡ End) × (after ≡ board)
 AfterStart (start.Record rest) n place board buffer after next = AfterRest n rest place board buffer after next
@@ -45,6 +45,6 @@ pub data AfterNext (place : ℕ) (board buffer after : List ℕ) (next : Next) :
   begun : (n : ℕ) → n ≤ LENGTH .width → AfterHead n place board buffer after next → AfterNext place board buffer after next
 
 -- a board that comes of another by posting records alone
-pub record PostedOn (board after : List ℕ) : Type 0 where
+pub record Postings (board after : List ℕ) : Type 0 where
   pub records : List (List ℕ)
   pub posts : after ≡ postAll board records

@@ -7,7 +7,7 @@ ghost use lib.ListN.{length, take};
 ghost use Rattle.records.specs.Layout.{LENGTH, answerRoom};
 ghost use Rattle.record_stream.specs.Streams.{longestRest};
 ghost use Rattle.post.specs.declared.Next.the-variants.{Failed};
-ghost use Rattle.post.specs.Posting.{AfterRest, AfterHead, AfterNext, PostedOn};
+ghost use Rattle.post.specs.Posting.{AfterRest, AfterHead, AfterNext, Postings};
 use board::BOARD_SIZE;
 use board::Posted;
 use libc::STDERR_FILENO;
@@ -36,7 +36,7 @@ fn main() {
 // Posts every record, and answers whether the input was read to its end. A proved loop has to end, and nothing says that
 // the input does: the count is one that no input reaches.
 fn post_all(board: &mut [u8]) -> bool
-    ensures { λ _. ⌜ PostedOn (now (board .entry)) (now (board .exit)) ⌝ }
+    ensures { λ _. ⌜ Postings (now (board .entry)) (now (board .exit)) ⌝ }
 {
     let mut bytes = [0u8; ANSWER_ROOM];
     let mut rounds_left = u64::MAX;

@@ -7,7 +7,8 @@ use Prim.Native.Nat.{ℕ, _^_, _≤_, _<_}
 use native.Mathlib.Omega.{arith}
 use lib.ListN.{length, take, drop, take-append-drop}
 use Rattle.records.specs.Layout.{entrySize, mostEntries}
-use Rattle.records.specs.Records.{headOf, headBytes, refusalHeadOf, refusalBytes, answerHeadOf, entryOf, entryBytes, entriesBytes, answerBytes}
+use Rattle.records.specs.Records.{headOf, headBytes, refusalHeadOf, refusalBytes, answerHeadOf, entryOf, entryBytes, entriesBytes}
+use Rattle.records.specs.Records.{answerBytes}
 use Rattle.records.specs.Ranges.{HeadHeld, EntryHeld}
 use Rattle.records.specs.declared.Entry.{Entry}
 use Rattle.records.proofs.RoundTrip.{head-back, entry-back}

@@ -13,7 +13,7 @@ use Rattle.record_stream.specs.declared.Start.the-variants as start
 use Rattle.record_stream.specs.Streams.{startOf}
 use Rattle.post.specs.declared.Next.{Next}
 use Rattle.post.specs.declared.Next.the-variants.{At, End, Failed}
-use Rattle.post.specs.Posting.{AfterRest, AfterStart, AfterNext, unread, begun, PostedOn}
+use Rattle.post.specs.Posting.{AfterRest, AfterStart, AfterNext, unread, begun, Postings}
 use Rattle.post.proofs.post_all.Statement.{statement}
 use Rattle.post.proofs.post_all.Tie as tie
 
@@ -24,28 +24,28 @@ unfolding postAll
 post-last board [] m = refl
 post-last board (n ∷ ms) m = post-last (postOf board n .board) ms m
 
-module _ (first board buffer after : List ℕ) (place : ℕ) (so-far : PostedOn first board) where
-  stays : after ≡ board → PostedOn first after
-  stays is = subst (PostedOn first) (sym is) so-far
+module _ (first board buffer after : List ℕ) (place : ℕ) (so-far : Postings first board) where
+  stays : after ≡ board → Postings first after
+  stays is = subst (Postings first) (sym is) so-far
 
-  posted : (m : List ℕ) → after ≡ postOf board m .board → PostedOn first after
+  posted : (m : List ℕ) → after ≡ postOf board m .board → Postings first after
   posted m is =
       record {
         records = so-far .records ++ (m ∷ []);
         posts = is ∙ ap (λ (b : List ℕ). postOf b m .board) (so-far .posts) ∙ sym (post-last first (so-far .records) m);
       }
 
-  by-rest : (n rest : ℕ) (next : Next) → AfterRest n rest place board buffer after next → PostedOn first after
+  by-rest : (n rest : ℕ) (next : Next) → AfterRest n rest place board buffer after next → Postings first after
   by-rest n rest (At next) is = posted (take (is .size) buffer) (is .posts)
   by-rest n rest End is = absurd is
   by-rest n rest Failed is = stays is
 
-  by-start : (s : Start) (n : ℕ) (next : Next) → AfterStart s n place board buffer after next → PostedOn first after
+  by-start : (s : Start) (n : ℕ) (next : Next) → AfterStart s n place board buffer after next → Postings first after
   by-start start.End n next is = stays (is .1)
   by-start (start.Record rest) n next is = by-rest n rest next is
   by-start start.NoRecord n next is = stays (is .1)
 
-  by-next : (next : Next) → AfterNext place board buffer after next → PostedOn first after
+  by-next : (next : Next) → AfterNext place board buffer after next → Postings first after
   by-next next (unread failed is) = stays is
   by-next next (begun n few is) = by-start (startOf (take n buffer)) n next is
 
@@ -53,12 +53,12 @@ module _ (first board buffer after : List ℕ) (place : ℕ) (so-far : PostedOn 
 
 abbrev Inv-loop : tie.InvT-loop
 Inv-loop board₀ bytes₀ left₀ place₀ board bytes left place =
-    (length board ≡ length board₀) × (length bytes ≡ answerRoom) × PostedOn board₀ board
+    (length board ≡ length board₀) × (length bytes ≡ answerRoom) × Postings board₀ board
 
 abbrev μ-loop : tie.MeasureT-loop
 μ-loop board₀ bytes₀ left₀ place₀ board bytes left place = left
 
-none-yet : (board : List ℕ) → PostedOn board board
+none-yet : (board : List ℕ) → Postings board board
 unfolding postAll
 none-yet board = record { records = []; posts = refl }
 
@@ -67,7 +67,7 @@ loop-holds c = (refl, refl, none-yet (c .before .args .board .now))
 
 -- the board after a round
 after-round : (c : tie.After-post-next Inv-loop μ-loop) →
-    PostedOn (c .before .before .before .before .before .before .args .board .now) (c .post-next .last .0)
+    Postings (c .before .before .before .before .before .before .args .board .now) (c .post-next .last .0)
 after-round c =
     let round = c .before .before .before .before in
     by-next _ (round .loop .board) (c .post-next .last .1 .0) (c .post-next .last .0) (round .loop .place) (round .loop .inv .2)
