@@ -7,7 +7,8 @@ ghost use Rattle.little_endian.specs.Bytes.{bytesOf, numberAt};
 
 // The byte `i` past `at`, 0 where that is past the end.
 fn byte_at(s: &[u8], at: usize, i: usize) -> u64
-    ensures { λ r. ⌜ (r ≡ getD (now (s .entry)) (at + i) 0) × (r < 256) ⌝ }
+    ensures byte { λ r. ⌜ r ≡ getD (now (s .entry)) (at + i) 0 ⌝ }
+    ensures bound { λ r. ⌜ r < 256 ⌝ }
 {
     if at < s.len() && i < s.len() - at {
         s[at + i] as u64
@@ -19,7 +20,8 @@ fn byte_at(s: &[u8], at: usize, i: usize) -> u64
 // The number whose bytes, at most eight, stand from `at` on.
 pub(crate) fn number_at(s: &[u8], at: usize, width: usize) -> u64
     requires { ⌜ width ≤ 8 ⌝ }
-    ensures { λ r. ⌜ (r ≡ numberAt width (now (s .entry)) at) × (r < 2 ^ (8 * width)) ⌝ }
+    ensures number { λ r. ⌜ r ≡ numberAt width (now (s .entry)) at ⌝ }
+    ensures bound { λ r. ⌜ r < 2 ^ (8 * width) ⌝ }
 {
     let mut value = 0u64;
     let mut left = width;

@@ -4,12 +4,12 @@ ghost use Rattle.record_stream.specs.Streams.{startOf};
 
 mod reasons;
 
-use little_endian::u32_at;
 pub use reasons::REASON_ROOM;
 pub use reasons::length_reason;
 pub use reasons::reason_of;
 use records::ANSWER_ROOM;
 use records::LENGTH_SIZE;
+use records::length_of;
 
 // The most bytes that follow the length of a record.
 const LONGEST_REST: usize = ANSWER_ROOM - LENGTH_SIZE;
@@ -32,7 +32,7 @@ pub fn start_of(head: &[u8]) -> Start
     if head.len() < LENGTH_SIZE {
         return Start::Record(0);
     }
-    let rest = u32_at(head, 0) as usize;
+    let rest = length_of(head) as usize;
     if LONGEST_REST < rest {
         return Start::NoRecord;
     }

@@ -84,7 +84,8 @@ fn number(low: u8, high: u8) -> usize
 
 // Where a question of some size ends in its frame. A size above 120 counts as 120.
 fn question_end(size: usize) -> usize
-    ensures { λ r. ⌜ (4 ≤ r) × (r ≤ 124) ⌝ }
+    ensures least { λ r. ⌜ 4 ≤ r ⌝ }
+    ensures most { λ r. ⌜ r ≤ 124 ⌝ }
 {
     if size < FRAME_SIZE - 4 {
         4 + size

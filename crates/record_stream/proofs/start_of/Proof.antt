@@ -29,7 +29,7 @@ returns-3 c =
     let tested = read .before in
     let head = tested .before .before .before .args .head .now in
     let long : LENGTH .width ≤ length head = omega (arith, tested .if2 .left) in
-    let far : longestRest < valueOf LENGTH head = omega (arith, c .if3 .taken, read .u32-at .ensures) in
+    let far : longestRest < valueOf LENGTH head = omega (arith, c .if3 .taken, read .length-of .ensures) in
     too-long head (tested .before .if1 .left) long far
 
 returns-4 : tie.Need-returns-4
@@ -38,8 +38,8 @@ returns-4 c =
     let tested = read .before in
     let head = tested .before .before .before .args .head .now in
     let long : LENGTH .width ≤ length head = omega (arith, tested .if2 .left) in
-    let near : valueOf LENGTH head ≤ longestRest = omega (arith, c .if3 .left, read .u32-at .ensures) in
-    ap Record (read .u32-at .ensures) ∙ followed head (tested .before .if1 .left) long near
+    let near : valueOf LENGTH head ≤ longestRest = omega (arith, c .if3 .left, read .length-of .ensures) in
+    ap Record (read .length-of .ensures) ∙ followed head (tested .before .if1 .left) long near
 
 pub start-of-spec : {M : Type 1} → statement M
 start-of-spec =
