@@ -1,4 +1,4 @@
--- Two different constructors are never equal: `cc` brings such an equation to `0 ≡ 1`, and that proves anything.
+-- Two different constructors are never equal. `cc` reduces an equation between them to `0 ≡ 1`, and from that `apart` proves anything.
 use mathlib.Core.Path.{_≡_}
 use Prim.Native.Nat.{ℕ}
 use native.Mathlib.Omega.{arith}

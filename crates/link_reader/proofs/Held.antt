@@ -1,4 +1,4 @@
--- A byte of the kept bytes and a piece after them: of the kept ones (`at-kept`), of the piece (`at-piece`), or past both (`at-none`).
+-- Byte i of the kept bytes followed by a piece is a kept byte (`at-kept`), a byte of the piece (`at-piece`), or 0 past both (`at-none`).
 use mathlib.Core.Path.{_≡_, refl, ap, _∙_}
 use mathlib.Core.List.{List, [], _∷_, _++_}
 use Prim.Native.Nat.{ℕ, zero, suc, _+_, _-_, _≤_, _<_}

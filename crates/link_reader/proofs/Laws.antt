@@ -1,5 +1,5 @@
--- What holds of the step that every call gives, whatever the state: no more bytes are taken than the piece has
--- (`taken-within`), and a finished question has room (`question-fits`).
+-- Two facts about the step of any call, whatever the state: it takes no more bytes than the piece has (`taken-within`), and a finished
+-- question fits the buffer (`question-fits`).
 use mathlib.Core.Path.{_≡_, refl}
 use mathlib.Core.List.{List}
 use Prim.Native.Nat.{ℕ, _+_, _-_, _≤_}
@@ -34,7 +34,7 @@ question-fits r piece s is = rw is (by (cameOf r piece) refl)
     by BadLength e = omega arith
     by NeedsReset e = omega arith
 
--- what is taken of the rest of a piece stays within the piece
+-- If a call reads the rest of a piece from index `at` on, the bytes it takes end within the piece.
 pub rest-within : (r : Reader) (piece : List ℕ) (at : ℕ) (s : Step) → at ≤ length piece
     → s ≡ readOf r (take (length piece - at) (drop at piece)) → at + s .taken ≤ length piece
 rest-within r piece at s h is =

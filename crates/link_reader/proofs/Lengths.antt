@@ -1,4 +1,5 @@
--- A question of a length that is in force fits the room (`in-force-fits`): by the list of the lengths, each of which does.
+-- A question whose length is in force fits the buffer (`in-force-fits`): every length in the list does (`among-fits`, by induction on the
+-- list).
 use mathlib.Core.Path.{_≡_, refl}
 use mathlib.Core.Bool.{Bool, true, false, _&&_, _||_}
 use mathlib.Core.List.{List, [], _∷_}

@@ -1,5 +1,5 @@
--- The case that a call gives has the number that the reader and the piece ask for (`refusal-given`): by the four cases of `Verdict`
--- where no length was refused before, and B4 where one was.
+-- The result of a call has the refusal that `refusalFor` gives for the reader and the piece (`refusal-given`). If a length was refused
+-- before, it is B4. Otherwise the proof goes through the four cases of `Verdict`.
 use mathlib.Core.Path.{_≡_, refl, ap, _∙_}
 use mathlib.Core.Bool.{Bool, true, false, cond}
 use mathlib.Core.List.{List, [], _∷_, _++_}
@@ -26,7 +26,7 @@ use Rattle.link_reader.specs.Reading.{
 use Rattle.link_reader.specs.Verdicts.{Verdict, few, bad, part, whole}
 use Rattle.link_reader.proofs.Verdicts.{verdict}
 
--- of what the bytes held tell, a length that is not in force alone is refused
+-- Only one verdict on the bytes held is a refusal: a length that is not in force.
 refusal-judged : {s : List ℕ} {came : Came} → Verdict s came → refusalOf came ≡ cond (hasBadLength s) (number 1 ∷ []) []
 refusal-judged {s} (few l) = rw (lt-leb (LENGTH .width) (length s) l)
 refusal-judged {s} (bad n f) = rw (le-leb (LENGTH .width) (length s) n, f)
@@ -42,7 +42,7 @@ refusal-came r piece = by (keptOf r ++ piece) (r .refused)
     by held true = refl
     by held false = refusal-judged (verdict refl)
 
--- a step says what it was made by
+-- A step contains the result that it was made for.
 step-came : (came : Came) (r : Reader) (piece : List ℕ) → stepBy came r piece .came ≡ came
 unfolding stepBy
 step-came (Question size) r piece = refl

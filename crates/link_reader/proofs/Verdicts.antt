@@ -1,5 +1,6 @@
--- What is judged is what the bytes tell, and the other way round (`verdict`, `judged-by`): the later lemmas go by the
--- four cases of `Verdict`. What is not finished has room (`part-fits`), and so has a question (`whole-fits`).
+-- The result of `judged` has a `Verdict` (`verdict`), and a `Verdict` determines the result of `judged` (`judged-by`). Later lemmas go
+-- through the four cases of `Verdict`. The bytes of an unfinished question fit the buffer (`part-fits`), and so do those of a finished
+-- one (`whole-fits`).
 use mathlib.Core.Path.{_≡_, refl, ap, _∙_}
 use mathlib.Core.Bool.{Bool, true, false, not, cond, true≢false}
 use mathlib.Core.List.{List, _++_}
@@ -38,7 +39,7 @@ judged-by {s} (bad n f) = rw (le-ltb (length s) (LENGTH .width) n, f)
 judged-by {s} (part n f l) = rw (le-ltb (length s) (LENGTH .width) n, f, lt-ltb (length s) (sizeOf s) l)
 judged-by {s} (whole n f l e) = rw (le-ltb (length s) (LENGTH .width) n, f, le-ltb (length s) (sizeOf s) l, e)
 
--- no bytes are judged so
+-- No bytes have the verdict `NeedsReset`.
 pub never-reset : {s : List ℕ} {P : Type 0} → Verdict s NeedsReset → P
 never-reset j = elim j [ ]
 
@@ -49,7 +50,7 @@ part-fits {s} (part n f l) = omega (arith, in-force-fits (valueOf LENGTH s) f)
 pub whole-fits : {s : List ℕ} {size : ℕ} → Verdict s (Question size) → (size ≤ length s) × (size ≤ questionRoom)
 whole-fits {s} (whole n f l e) = (omega arith, omega (arith, in-force-fits (valueOf LENGTH s) f))
 
--- where no reset is needed, the bytes held decide
+-- Whether a result is `NeedsReset`. If it is not, the bytes held decide it (`came-verdict`).
 abbrev pub needsReset : Came → Bool
 needsReset NeedsReset = true
 needsReset (Question size) = false

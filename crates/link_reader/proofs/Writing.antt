@@ -1,5 +1,6 @@
--- Bytes of a piece pasted after the kept ones are the bytes held, up to a size, written at the start of the room
--- (`pasted`). So are the steps that keep a piece (`keeps`) and that finish a question (`finishes`).
+-- Pasting the first bytes of a piece after the kept bytes is the same as writing the bytes held, up to a size, at the start of the buffer
+-- (`pasted`). So the code's step that keeps a piece (`keeps`) and its step that finishes a question (`finishes`) are the steps of
+-- `stepBy`.
 use mathlib.Core.Path.{_≡_, refl, sym, ap, _∙_}
 use mathlib.Core.Bool.{Bool, true, false}
 use mathlib.Core.List.{List, _++_}
@@ -25,7 +26,7 @@ module _ (room piece : List ℕ) (n size : ℕ) (within : n ≤ length room) (fi
   long : length kept ≡ n
   long = length-take-le n room within
 
-  -- the kept bytes and some of the piece
+  -- `pasted`, if the size is at least the number of kept bytes: all of these and the first bytes of the piece are written.
   more : n ≤ size → size ≤ n + length piece → paste room n piece (size - n) ≡ written room (take size (kept ++ piece))
   more h k =
       let e : size ≡ length kept + (size - n) = omega (arith, long) in
@@ -37,7 +38,7 @@ module _ (room piece : List ℕ) (n size : ℕ) (within : n ≤ length room) (fi
       ap (λ (j : ℕ). kept ++ take (size - n) piece ++ drop j room) (s ∙ sym l)
       ∙ sym (ap (written room) held ∙ laid room (kept ++ take (size - n) piece) (omega (arith, l)))
 
-  -- the kept bytes alone, which the room holds already
+  -- `pasted`, if the size is at most the number of kept bytes: the buffer already holds the bytes to be written.
   fewer : size ≤ n → paste room n piece (size - n) ≡ written room (take size (kept ++ piece))
   fewer h =
       let z : size - n ≡ 0 = omega arith in
@@ -58,7 +59,8 @@ module _ (room piece : List ℕ) (n size : ℕ) (within : n ≤ length room) (fi
       by true e = more (leb-true n size e) k
       by false e = fewer (omega (arith, leb-false n size e))
 
--- a count cut to the room's size takes the bytes that the count itself takes, and is how many they are
+-- A count cut to the buffer's size takes the same bytes as the count itself (`cut-kept`), and it is the number of these bytes
+-- (`cut-count`).
 module _ (r : Reader) (n : ℕ) (long : length (r .bytes) ≡ questionRoom) (cut : n ≡ min (r .count) questionRoom) where
   cut-within : n ≤ length (r .bytes)
   cut-within = omega (arith, cut, long, min-le-right (r .count) questionRoom)

@@ -1,5 +1,5 @@
--- What some bytes tell of a question that they begin, as facts and with no order of tests: the theorems about streams
--- are said by these. Definitions only.
+-- The verdict on bytes that begin a question, stated as facts and not as an order of tests. The theorems about streams use these facts.
+-- Definitions only.
 use Prim.Native.Nat.{ℕ, _≤_, _<_}
 use mathlib.Core.Path.{_≡_}
 use mathlib.Core.Bool.{true, false}
@@ -10,8 +10,9 @@ use Rattle.link_reader.specs.declared.Came.{Came}
 use Rattle.link_reader.specs.declared.Came.the-variants.{Question, Nothing, BadLength}
 use Rattle.link_reader.specs.Reading.{isQuestionLength}
 
--- nothing yet: fewer bytes than a length has, or fewer than the length says; a length that is not in force, once it is
--- in; a question whole, of the size that its length says
+-- The verdict on the bytes s. `few`: fewer bytes than a length field has, so nothing yet. `bad`: the length is in and is not in force.
+-- `part`: the length is in force, and there are fewer bytes than the size that it gives, so nothing yet. `whole`: the length is in force
+-- and the question is whole, with the size that its length gives.
 pub data Verdict (s : List ℕ) : Came → Type 0 where
   few : length s < LENGTH .width → Verdict s Nothing
   bad : LENGTH .width ≤ length s → isQuestionLength (valueOf LENGTH s) ≡ false → Verdict s BadLength

@@ -1,4 +1,4 @@
-// What comes of a piece, by the bytes that are kept and its own.
+// Decides the result of a call from the kept bytes and the piece.
 ghost use mathlib.Core.Path.{_≡_};
 ghost use Prim.Native.Nat.{_-_, _<_, min};
 ghost use mathlib.Core.List.{_++_};
@@ -33,7 +33,7 @@ pub(crate) fn at_most(n: usize, limit: usize) -> usize
     if n < limit { n } else { limit }
 }
 
-// What has come by the kept bytes and a piece after them.
+// Decides the result for the kept bytes followed by the piece, if no reset is needed.
 fn judge(kept: &[u8], piece: &[u8]) -> Came
     ensures { λ r. ⌜ r ≡ judged (now (kept .entry) ++ now (piece .entry)) ⌝ }
 {
@@ -57,14 +57,14 @@ fn is_question_length(length: u32) -> bool
     length == QUESTION_LENGTH
 }
 
-// How many bytes are missing to a size.
+// Returns how many bytes are missing for the given size, or 0 if none are.
 pub(crate) fn missing(count: usize, size: usize) -> usize
     ensures { λ r. ⌜ r ≡ size - count ⌝ }
 {
     if count < size { size - count } else { 0 }
 }
 
-// The length that the kept bytes and a piece begin with.
+// Returns the length at the start of the kept bytes followed by the piece.
 fn held_length(kept: &[u8], piece: &[u8]) -> u32
     ensures { λ r. ⌜ r ≡ valueOf LENGTH (now (kept .entry) ++ now (piece .entry)) ⌝ }
 {
@@ -75,7 +75,7 @@ fn held_length(kept: &[u8], piece: &[u8]) -> u32
     b0 + 256 * (b1 + 256 * (b2 + 256 * b3))
 }
 
-// A byte of the kept ones and a piece after them, 0 past the end.
+// Returns byte i of the kept bytes followed by the piece, or 0 past the end.
 fn byte_of(kept: &[u8], piece: &[u8], i: usize) -> u32
     ensures result { λ r. ⌜ r ≡ getD (now (kept .entry) ++ now (piece .entry)) i 0 ⌝ }
     ensures byte { λ r. ⌜ r < 256 ⌝ }

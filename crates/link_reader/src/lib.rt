@@ -1,5 +1,5 @@
-// Reads the questions that come over a link in pieces of any size: each call takes a piece and gives the next state, how many
-// bytes it took, and what came of it (02, A2). What it did not take is handed in again.
+// Reads questions that arrive over a link in pieces of any size (02, A2). Each call takes a piece and returns the next state, how many
+// bytes it took, and its result. The caller passes in again the bytes that the call did not take.
 ghost use mathlib.Core.Path.{_≡_};
 ghost use Prim.Native.Nat.{_+_, _≤_};
 ghost use lib.ListN.{length};
@@ -15,16 +15,16 @@ use judging::came_of;
 use judging::missing;
 use records::QUESTION_ROOM;
 
-// The state: the bytes that came of a question that is not finished, how many they are, and whether a length was refused since
-// the last reset.
+// The state of a reader: the bytes received of an unfinished question, their count, and whether a length was refused since the last
+// reset.
 pub struct Reader {
     pub bytes: [u8; QUESTION_ROOM],
     pub count: usize,
     pub refused: bool,
 }
 
-// What comes of a piece: a finished question and its size, nothing yet, a length that is not in force, which is refused, or
-// that the reader needs a reset, which is a refusal too. The definition `refusalOf` has the numbers of both.
+// The result of a call: a finished question with its size; nothing yet; a length that is not in force, which is refused; or a reader that
+// needs a reset, which is a refusal too. The definition `refusalOf` gives the numbers of the two refusals.
 pub enum Came {
     Question(usize),
     Nothing,
@@ -32,7 +32,8 @@ pub enum Came {
     NeedsReset,
 }
 
-// What a call gives: the next state, how many bytes of the piece it took, what came, and the bytes of a finished question.
+// What a call returns: the next state, how many bytes of the piece it took, its result, and a buffer. The buffer begins with the bytes of
+// a finished question; it is all zeros if no question is finished.
 pub struct Step {
     pub next: Reader,
     pub taken: usize,
@@ -41,7 +42,7 @@ pub struct Step {
 }
 
 impl Reader {
-    // A reader that keeps nothing.
+    // Returns a reader in its initial state, which keeps no bytes.
     pub fn new() -> Self
         ensures { λ r. ⌜ r ≡ asNew ⌝ }
     {
@@ -52,14 +53,14 @@ impl Reader {
         }
     }
 
-    // The reader as new, whatever it kept or refused.
+    // Returns a reader in its initial state, whatever this one kept or refused.
     pub fn reset(self) -> Self
         ensures { λ r. ⌜ r ≡ asNew ⌝ }
     {
         Self::new()
     }
 
-    // Takes a piece, of any number of bytes.
+    // Reads a piece of any number of bytes. The contract `step` gives the whole step, and `refusal` says which refusal it has, if any.
     pub fn read(self, piece: &[u8]) -> Step
         ensures step { λ r. ⌜ r ≡ readOf self (now (piece .entry)) ⌝ }
         ensures refusal { λ r. ⌜ refusalOf (r .came) ≡ refusalFor self (now (piece .entry)) ⌝ }
@@ -87,7 +88,8 @@ impl Reader {
     }
 }
 
-// A piece that finishes a question of a size: it is taken up to the question's last byte, and a new reader follows.
+// Returns the step for a piece that finishes a question of the given size. The step takes the piece up to the question's last byte, and
+// the next state is the initial one.
 fn finished(reader: Reader, piece: &[u8], size: usize) -> Step
     requires { ⌜ (size ≤ questionRoom) × (size ≤ length (keptOf reader) + length (now piece)) ⌝ }
     ensures { λ r. ⌜ r ≡ stepBy (Question size) reader (now (piece .entry)) ⌝ }
@@ -105,7 +107,7 @@ fn finished(reader: Reader, piece: &[u8], size: usize) -> Step
     }
 }
 
-// A piece that finishes no question: all of it is kept.
+// Returns the step for a piece that finishes no question. The step takes the whole piece and keeps it.
 fn kept(reader: Reader, piece: &[u8]) -> Step
     requires { ⌜ length (keptOf reader) + length (now piece) ≤ questionRoom ⌝ }
     ensures { λ r. ⌜ r ≡ stepBy Nothing reader (now (piece .entry)) ⌝ }
@@ -125,7 +127,7 @@ fn kept(reader: Reader, piece: &[u8]) -> Step
     }
 }
 
-// The bytes with the first n of a piece at a place.
+// Returns `bytes` with the first n bytes of a piece written from index `at` on.
 fn appended(bytes: [u8; QUESTION_ROOM], at: usize, piece: &[u8], n: usize) -> [u8; QUESTION_ROOM]
     requires { ⌜ (at + n ≤ questionRoom) × (n ≤ length (now piece)) ⌝ }
     ensures { λ r. ⌜ r ≡ paste bytes at (now (piece .entry)) n ⌝ }

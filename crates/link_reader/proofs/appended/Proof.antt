@@ -1,5 +1,5 @@
--- `appended` meets its contract. The loop's invariant: the first i bytes of the piece stand in their place. The measure
--- is how many are left.
+-- `appended` meets its contract. The loop invariant: the first i bytes of the piece are written from index `at` on. The measure is the
+-- number of bytes left.
 use Prim.Native.Nat.{_+_, _-_, _≤_}
 use mathlib.Core.Path.{_≡_, ap, _∙_}
 use native.Mathlib.Numerals.{add-one}

@@ -1,4 +1,4 @@
--- `finished` meets its contract: the bytes of the piece up to the question's last stand after the kept ones.
+-- `finished` meets its contract: it writes the bytes of the piece, up to the question's last byte, after the kept ones.
 use mathlib.Core.Path.{_≡_}
 use native.Mathlib.Omega.{arith}
 use borrow.Author.Needs.{needs}

@@ -1,4 +1,4 @@
--- `kept` meets its contract: the piece stands after the kept bytes.
+-- `kept` meets its contract: it writes the piece after the kept bytes.
 use mathlib.Core.Path.{_≡_}
 use native.Mathlib.Omega.{arith}
 use borrow.Author.Needs.{needs}

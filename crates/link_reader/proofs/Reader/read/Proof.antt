@@ -1,4 +1,4 @@
--- `Reader::read` meets its contract: what came decides which step it is, and the step says which refusal it gives.
+-- `Reader::read` meets its contract: the result decides which step it is, and the step has the refusal that the contract promises.
 use mathlib.Core.Path.{_≡_, refl, sym, ap, _∙_}
 use mathlib.Core.List.{List}
 use Prim.Native.Nat.{ℕ}
@@ -14,7 +14,7 @@ use Rattle.link_reader.proofs.Refusals.{refusal-given}
 use Rattle.link_reader.proofs.Reader.read.Statement.{statement}
 use Rattle.link_reader.proofs.Reader.read.Tie as tie
 
--- a step by what came is the step that is promised, and has the refusal that is promised
+-- A step made for the result of `cameOf` is the promised step, and has the promised refusal.
 read-by : (r : Reader) (piece : List ℕ) {came told : Came} {s : Step} → s ≡ stepBy came r piece → told ≡ cameOf r piece → told ≡ came
     → (s ≡ readOf r piece) × (refusalOf (s .came) ≡ refusalFor r piece)
 unfolding readOf

@@ -1,4 +1,4 @@
--- `judging::byte_of` meets its contract: a byte is below 256; it stands in the kept bytes, in the piece, or past both.
+-- `judging::byte_of` meets its contract. A byte is below 256, and it is one of the kept bytes, one of the piece, or 0 past both.
 use mathlib.Core.Path.{sym}
 use native.Mathlib.Omega.{arith}
 use borrow.Author.Needs.{needs}

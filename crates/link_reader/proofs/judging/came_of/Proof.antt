@@ -1,4 +1,4 @@
--- `judging::came_of` meets its contract: after a refusal a reset is needed, else the bytes held decide.
+-- `judging::came_of` meets its contract: after a refusal the reader needs a reset, and otherwise the bytes held decide.
 use mathlib.Core.Path.{sym, ap, _∙_}
 use mathlib.Core.Bool.{Bool, cond}
 use mathlib.Core.List.{_++_}

@@ -1,4 +1,4 @@
--- `judging::held_length` meets its contract: four bytes, the lowest first.
+-- `judging::held_length` meets its contract: the length is the little-endian number in four bytes.
 use borrow.Author.Needs.{needs}
 use Rattle.little_endian.specs.Bytes.{numberAt}
 use Rattle.link_reader.proofs.judging.held_length.Statement.{statement}

@@ -1,4 +1,4 @@
--- `judging::is_question_length` meets its contract: one length is in force.
+-- `judging::is_question_length` meets its contract, because the list of lengths in force has one element.
 use mathlib.Core.Path.{sym}
 use mathlib.Core.Bool.{or-false}
 use lib.Dec.{eqb}

@@ -1,4 +1,4 @@
--- `judging::judge` meets its contract: each way out is one of the four verdicts.
+-- `judging::judge` meets its contract: each of its returns is one of the four cases of `Verdict`.
 use mathlib.Core.Path.{_≡_, sym, ap, _∙_}
 use Prim.Native.Nat.{ℕ, _+_, _≤_, _<_}
 use mathlib.Core.Bool.{true}
@@ -30,7 +30,7 @@ held-length-requires c κs = search needs
 is-question-length-requires : tie.Need-is-question-length-requires
 is-question-length-requires c κs = search needs
 
--- the bytes held, once the length's are in
+-- The bytes held, at the point after the length was tested.
 abbrev held-at : tie.After-is-question-length → List ℕ
 held-at c =
     let a = c .before .before .before .before .before .before .args in
@@ -48,7 +48,7 @@ length-in c =
     let enough = c .before .before in
     omega (arith, held-long c, enough .if1 .left, enough .before .missing .ensures)
 
--- what was found of the length
+-- `is_question_length` returned whether the length in the bytes held is in force.
 in-force : (c : tie.After-is-question-length) → isQuestionLength (valueOf LENGTH (held-at c)) ≡ c .is-question-length .result
 in-force c = sym (ap isQuestionLength (c .before .held-length .ensures)) ∙ sym (c .is-question-length .ensures)
 
@@ -67,7 +67,7 @@ add-size c = search needs
 missing-requires-2 : tie.Need-missing-requires-2
 missing-requires-2 c κs = search needs
 
--- the length is in force, and the size is what it says
+-- If the test of the length passed, the length is in force.
 good : (c : tie.Else2) → isQuestionLength (valueOf LENGTH (held-at (c .before))) ≡ true
 good c =
     let tested = c .before in

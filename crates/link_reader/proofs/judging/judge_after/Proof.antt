@@ -1,4 +1,4 @@
--- `judging::judge_after` meets its contract: the kept bytes taken up to a count that is cut to the room's size.
+-- `judging::judge_after` meets its contract: a count cut to the number of bytes takes the same bytes as the count itself.
 use mathlib.Core.Path.{sym, ap, _∙_}
 use mathlib.Core.List.{_++_}
 use native.Mathlib.Omega.{arith}
