@@ -1,5 +1,5 @@
--- What a call makes of a piece where some bytes are kept that are not finished, by what has come of them together
--- (`call`): nothing, a length that is refused, or a finished question.
+-- The step of a call if the reader keeps unfinished bytes (`call`). It follows from the verdict on these bytes and the piece together:
+-- nothing yet, a refused length, or a finished question.
 use mathlib.Core.Path.{_≡_, refl, _∙_}
 use mathlib.Core.List.{List, [], _++_}
 use Prim.Native.Nat.{ℕ, _-_, _<_}
@@ -25,7 +25,8 @@ new-keeps = refl
 pub kept-is : {s : List ℕ} → Verdict s Nothing → keptOf (keeping s) ≡ s
 kept-is {s} j = laid-front (length s) blank s (omega (arith, part-fits j)) (omega arith) ∙ take-length s
 
--- the step, with what the two make together; a finished question's bytes stand at the front of its buffer
+-- The step of a call with the piece p if the bytes s are kept, by the verdict on both together. The bytes of a finished question are at
+-- the start of its buffer.
 pub data Call (s p : List ℕ) : Step → Type 0 where
   nothing : Verdict (s ++ p) Nothing → Call s p (record { next = keeping (s ++ p); taken = length p; came = Nothing; question = blank })
   bad : Verdict (s ++ p) BadLength → Call s p (record { next = afterRefusal; taken = length p; came = BadLength; question = blank })

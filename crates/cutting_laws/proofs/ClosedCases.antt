@@ -1,6 +1,7 @@
--- Streams that begin with 01's worked question, fed in pieces and computed: a question cut twice with the begin of
--- another behind it, and a length that is refused and cut in two; a question with other faults, and lengths that are
--- not whole or only just.
+-- Streams fed in pieces, computed by the prover: 01's worked question cut in two, with an empty piece between, and the start of another
+-- question after it (`question-cut`); that question followed by a refused length, which is cut in two (`length-cut`); a question with
+-- other faults (`fault-given-out`); a bad length with three of its four bytes in (`not-judged-early`), and one with all four in
+-- (`judged-at-once`).
 use mathlib.Core.Path.{_≡_, refl}
 use mathlib.Core.List.{List, [], _∷_, _++_}
 use Prim.Native.Nat.{ℕ, _+_}
@@ -13,18 +14,19 @@ use Rattle.cutting_laws.specs.Feeding.{question, refusal, givenBy, feedF
 abbrev ONE : ℕ
 ONE = 0x3FF0_0000_0000_0000
 
--- 01's worked question: job 7, revision 2, M = 1, the short way, r1 = (1, 0, 0), r2 = (0, 1, 0), mu 1, time 1
+-- 01's worked question: job 7, revision 2, M = 1, the short way, r1 = (1, 0, 0), r2 = (0, 1, 0), mu 1, time 1.
 unfoldable pub worked : List ℕ
 worked = encode questionFields (78 ∷ 1 ∷ 7 ∷ 2 ∷ 1 ∷ 0 ∷ 0 ∷ ONE ∷ 0 ∷ 0 ∷ 0 ∷ ONE ∷ 0 ∷ ONE ∷ ONE ∷ [])
 
--- the same of another kind and with job 0: faults that are the solver's to tell
+-- The same question with another kind and with job 0. The solver judges these faults.
 unfoldable pub faulty : List ℕ
 faulty = encode questionFields (78 ∷ 2 ∷ 0 ∷ 2 ∷ 1 ∷ 0 ∷ 0 ∷ ONE ∷ 0 ∷ 0 ∷ 0 ∷ ONE ∷ 0 ∷ ONE ∷ ONE ∷ [])
 
--- a length one above the one in force, and one with another second byte
+-- A length one above the length in force.
 unfoldable pub over : List ℕ
 over = bytesOf (LENGTH .width) 79
 
+-- The length in force with another second byte.
 unfoldable pub high : List ℕ
 high = bytesOf (LENGTH .width) (78 + 256)
 

@@ -1,5 +1,5 @@
--- A stream holds one thing (`holds-one`, by induction on what it holds), so a reader gives out the same and keeps the
--- same however the stream is cut into pieces (`any-cutting`).
+-- A stream holds only one thing (`holds-one`, by induction on what it holds). So a reader gives out the same and keeps the same however
+-- the stream is cut into pieces (`any-cutting`).
 use mathlib.Core.Path.{_≡_, refl}
 use mathlib.Core.List.{List, _++_}
 use Prim.Native.Nat.{ℕ}
@@ -25,7 +25,7 @@ holds-one (next-question {stream} {size = size} d h) (next-question {size = othe
     let rest = holds-one h (rw same at k) in
     (rw (same, rest .0), rest .1)
 
--- what came before is the same on both sides
+-- If two outputs are equal and begin with the same earlier part, they are equal after that part.
 same-after : {rest : List ℕ} {last gs hs : List Given} {r : Reader} → Ends rest last r → last ++ gs ≡ last ++ hs → gs ≡ hs
 same-after (kept j) e = e
 same-after (refused-rest j) e = cc

@@ -1,5 +1,6 @@
--- More bytes change what has come only where nothing had (`bad-more`, `whole-more`), and they end a question that they
--- finish (`part-ends`): the length's own bytes decide.
+-- More bytes change the verdict only if it was nothing yet: a bad length remains a bad length (`bad-more`), and a whole question remains
+-- a whole question (`whole-more`), because the length's own bytes decide. If more bytes finish a question, it ends within these
+-- (`part-ends`).
 use mathlib.Core.Path.{_≡_, sym, ap, _∙_}
 use mathlib.Core.List.{List, _++_}
 use Prim.Native.Nat.{ℕ, _≤_, _<_}
@@ -12,7 +13,7 @@ use Rattle.link_reader.specs.declared.Came.the-variants.{Question, Nothing, Bad
 use Rattle.link_reader.specs.Verdicts.{Verdict, few, bad, part, whole}
 use Rattle.cutting_laws.specs.Feeding.{IsQuestion}
 
--- a length that is in stays what it is
+-- Once the bytes of a length are in, more bytes do not change its value.
 value-front : (s p : List ℕ) → LENGTH .width ≤ length s → valueOf LENGTH (s ++ p) ≡ valueOf LENGTH s
 value-front s p n = number-front (LENGTH .width) (LENGTH .offset) s p n
 
@@ -27,12 +28,12 @@ whole-more {s} {size} p (whole n f l e) =
     let same = value-front s p n in
     whole {size = size} (longer s p n) (rw same f) (rw same (longer s p l)) (rw same e)
 
--- a question that more bytes finish ends in these
+-- If more bytes finish a question, its last byte is one of these.
 pub part-ends : {s : List ℕ} {size : ℕ} (p : List ℕ) → Verdict s Nothing → Verdict (s ++ p) (Question size) → length s < size
 part-ends p (few l) (whole m h k e) = omega arith
 part-ends {s} p (part n f l) (whole m h k e) = omega (arith, value-front s p n)
 
--- a whole question by itself
+-- The first bytes of a stream that form a whole question are the bytes of a question.
 pub whole-is : {s : List ℕ} {size : ℕ} → Verdict s (Question size) → IsQuestion (take size s)
 whole-is {s} {size} (whole n f l e) =
     let q = take size s in

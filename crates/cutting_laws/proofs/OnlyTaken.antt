@@ -1,5 +1,5 @@
--- What a call does not take does not matter to it, whatever the state (`only-taken`): handed in later, alone or with
--- more bytes behind it, it meets the same reader.
+-- The bytes that a call does not take have no effect on it, whatever the state: the step is the same without them (`only-taken`). So they
+-- meet the same reader when they are passed in later, alone or with more bytes after them.
 use mathlib.Core.Path.{_≡_, refl, sym, ap, _∙_}
 use mathlib.Core.Bool.{Bool, true, false, cond}
 use mathlib.Core.List.{List, [], _++_}
@@ -19,7 +19,7 @@ use Rattle.link_reader.specs.Verdicts.{Verdict}
 use Rattle.link_reader.proofs.Verdicts.{verdict, judged-by, never-reset, whole-fits}
 use Rattle.cutting_laws.proofs.More.{whole-more, whole-alone}
 
--- the first bytes, up to a size, of the kept ones and of a piece that is cut there
+-- The first `size` bytes of the kept bytes followed by a piece stay the same if the piece is cut to the bytes that are missing.
 cut-front : (kept piece : List ℕ) (size : ℕ) → size ≤ length kept + length piece
     → take size (kept ++ take (size - length kept) piece) ≡ take size (kept ++ piece)
 cut-front kept piece size h = by (leb (length kept) size) refl
@@ -36,7 +36,7 @@ cut-front kept piece size h = by (leb (length kept) size) refl
         take-append-le size kept (take (size - length kept) piece) few ∙ sym (take-append-le size kept piece few)
 
 module _ (r : Reader) (piece : List ℕ) where
-  -- a question takes the bytes that finish it, and these finish it alone
+  -- The bytes that a question takes of a piece finish it without the rest of the piece.
   question-alone : {size : ℕ} → Verdict (keptOf r ++ piece) (Question size)
       → Verdict (keptOf r ++ take (size - length (keptOf r)) piece) (Question size)
   question-alone {size} j =
@@ -45,7 +45,7 @@ module _ (r : Reader) (piece : List ℕ) where
       cut-front (keptOf r) piece size (omega (arith, whole-fits j .0, length-append (keptOf r) piece)) in
       rw (take-append-drop size held) at (whole-more (drop size held) (rw (← front) at (whole-alone j)))
 
-  -- with other bytes that tell the same, the step is by the same
+  -- If no length was refused, the verdict on the kept bytes followed by any piece decides the step.
   step-by : (other : List ℕ) {c : Came} → r .refused ≡ false → judged (keptOf r ++ other) ≡ c → readOf r other ≡ stepBy c r other
   unfolding readOf cameOf
   step-by other e f = ap (λ (k : Came). stepBy k r other) (ap (λ (b : Bool). cond b NeedsReset (judged (keptOf r ++ other))) e ∙ f)

@@ -1,6 +1,6 @@
--- What a stream holds, in parts: its questions, and a rest that is not finished or begins with a length that is refused
--- (`parts`, by induction on what it holds). Every state that a reader comes to goes by such a rest (`reached`, by
--- induction on the calls).
+-- What a stream holds, in parts: its questions, and a rest that is unfinished or begins with a refused length (`parts`, by induction on
+-- what the stream holds). Every state that a reader can reach is the state after a rest of this kind (`reached`, by induction on the
+-- calls).
 use mathlib.Core.Path.{_≡_, refl, ap, _∙_}
 use mathlib.Core.Bool.{true, false}
 use mathlib.Core.List.{List, [], _∷_, _++_, map, append-assoc, List·Memᴰ·not-nil as in-none, List·Memᴰ·cases-cons as in-first}
@@ -20,7 +20,7 @@ use Rattle.cutting_laws.proofs.Calls.{new-keeps, kept-is, Call, nothing
 use Rattle.cutting_laws.proofs.Pieces.{none-judged}
 use Rattle.cutting_laws.proofs.Refusals.{needs-reset}
 
--- what a rest gives out, and the state that it leaves
+-- What a rest gives out, and the state after it.
 pub data Ends (rest : List ℕ) : List Given → Reader → Type 0 where
   kept : Verdict rest Nothing → Ends rest [] (keeping rest)
   refused-rest : Verdict rest BadLength → Ends rest (map refusal (refusalOf BadLength)) afterRefusal
@@ -39,7 +39,7 @@ pub refused-ends : {rest : List ℕ} {last : List Given} {r : Reader} → Ends r
 refused-ends (kept j) e = apart (cc)
 refused-ends (refused-rest j) e = (refl, j, refl)
 
--- ---- the parts of a stream
+-- ---- The parts of a stream
 
 pub record Parts (stream : List ℕ) (gs : List Given) (r : Reader) : Type 0 where
   pub questions : List (List ℕ)
@@ -74,7 +74,7 @@ parts (next-question {stream} {size = size} e h) =
       ends = later .ends;
     }
 
--- ---- the states that a reader comes to
+-- ---- The states that a reader can reach
 
 pub record Standing (r : Reader) : Type 0 where
   pub rest : List ℕ

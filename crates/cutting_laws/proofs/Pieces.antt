@@ -1,6 +1,6 @@
--- Bytes that are kept and a piece that is fed to them come to what they hold together, and no byte of the piece is left
--- (`feed-kept`): by induction on the calls, of which there is one more than the piece has bytes, since a call that
--- finishes a question takes some.
+-- If a piece is fed to a reader that keeps unfinished bytes, the result is what these bytes and the piece hold together, and no byte of
+-- the piece is left (`feed-kept`). The proof is by induction on the number of calls, which must be above the number of bytes in the
+-- piece. That is enough, because a call that finishes a question takes at least one byte.
 use mathlib.Core.Path.{_≡_, refl}
 use mathlib.Core.Bool.{cond}
 use mathlib.Core.List.{List, [], _∷_, _++_}
@@ -18,7 +18,7 @@ use Rattle.link_reader.specs.Verdicts.{Verdict, few}
 use Rattle.link_reader.proofs.Verdicts.{whole-fits}
 use Rattle.cutting_laws.proofs.Calls.{new-keeps, Call, nothing, bad, finished, call}
 
--- what is fed is what a stream holds, and nothing of it is left
+-- The result of feeding is what the stream holds, and no byte is left.
 pub record Comes (stream : List ℕ) (f : Fed) : Type 0 where
   pub holds : StreamHolds stream (f .given) (f .reader)
   pub nothing-left : f .left ≡ []
@@ -29,7 +29,7 @@ none-judged = few (omega arith)
 pub new-holds : StreamHolds [] [] asNew
 new-holds = rw (← new-keeps) (unfinished none-judged)
 
--- nothing is handed in again where nothing is left
+-- An empty rest is not passed in again, and the result is still what the rest holds.
 rest-comes : (q : List ℕ) (f : Fed) → Comes q f → Comes q (cond (eqb (length q) 0) (fed [] asNew []) f)
 rest-comes [] f c = record { holds = new-holds; nothing-left = refl }
 rest-comes (b ∷ q) f c = rw (eqb·suc-zero (length q)) c

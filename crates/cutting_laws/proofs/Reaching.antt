@@ -1,6 +1,7 @@
--- Of a state that a reader comes to: a call takes some of a piece where no reset is needed (`progress`), so feeding
--- goes to the end of the piece (`feeding-ends`) and more calls change nothing (`more-calls`). By the rest that the
--- state goes by.
+-- For every state that a reader can reach: a call takes at least one byte of a piece that is not empty, unless it gives B4 (`progress`).
+-- Feeding leaves no byte of a piece if no length was refused (`feeding-ends`), and more calls change nothing (`more-calls`). If a length
+-- was refused, the state is `afterRefusal` (`reached-refused`). Each proof goes through the two cases of `Ends` for the rest that led to
+-- the state.
 use mathlib.Core.Path.{_≡_, refl, sym, _∙_}
 use mathlib.Core.Bool.{true, false}
 use mathlib.Core.List.{List, [], _∷_}
@@ -43,7 +44,7 @@ feeding-ends r h e piece = by (reached h .ends) e
     by (kept j) f = kept-left piece j
     by (refused-rest j) f = apart (cc)
 
--- two feedings that come to the same stream
+-- Two results of feeding that are what one stream holds are equal.
 same-fed : {s : List ℕ} {f g : Fed} → Comes s f → Comes s g → f ≡ g
 same-fed c d =
     let one = holds-one (c .holds) (d .holds) in

@@ -1,6 +1,6 @@
--- Every byte of a stream is in a question or is kept (`taken-whole`), or comes from a refused length on, and then is
--- dropped or left (`taken-to-refusal`): by the parts of what the taken bytes hold (`taken-holds`, by induction on the
--- pieces).
+-- If no length was refused, every byte of a stream is in a question or is kept (`taken-whole`). If one was refused, the bytes before it
+-- are in questions, and those from it on are dropped or left (`taken-to-refusal`). Both follow from the parts of what the taken bytes
+-- hold (`taken-holds`, by induction on the pieces).
 use mathlib.Core.Path.{_≡_, refl, sym, ap, _∙_}
 use mathlib.Core.Bool.{true, false, true≢false}
 use mathlib.Core.List.{List, [], _∷_, _++_, map, append-nil, append-assoc}
@@ -18,19 +18,20 @@ use Rattle.cutting_laws.proofs.Refusals.{refused-all}
 use Rattle.cutting_laws.proofs.Holding.{feed-holds}
 use Rattle.cutting_laws.proofs.Parts.{Ends, kept, refused-rest, kept-ends, refused-ends, parts}
 
--- a kept rest leaves nothing of a piece
+-- A reader that keeps an unfinished rest leaves no byte of a piece.
 pub kept-left : {rest : List ℕ} (p : List ℕ) → Verdict rest Nothing → feed (keeping rest) p .left ≡ []
 unfolding feed
 kept-left {rest} p j = feed-kept (suc (length p)) rest p j (omega arith) .nothing-left
 
--- the bytes that calls took after a stream, and what they hold together; the rest is left
+-- The bytes that calls took after the stream s, and what s and these bytes hold together. The other bytes of the pieces are left; there
+-- are none unless a length was refused.
 pub record Taken (s : List ℕ) (gs : List Given) (r : Reader) (ps : List (List ℕ)) : Type 0 where
   pub taken : List ℕ
   pub bytes : taken ++ feedAll r ps .left ≡ concatenation ps
   pub holds : StreamHolds (s ++ taken) (gs ++ feedAll r ps .given) (feedAll r ps .reader)
   pub all : feedAll r ps .reader .refused ≡ false → feedAll r ps .left ≡ []
 
--- a piece that is taken whole, and then the others
+-- A piece that is taken whole, and then the other pieces.
 taken-more : {s : List ℕ} {gs : List Given} {r : Reader} (p : List ℕ) (ps : List (List ℕ)) → feed r p .left ≡ []
     → Taken (s ++ p) (gs ++ feed r p .given) (feed r p .reader) ps → Taken s gs r (p ∷ ps)
 unfolding feedAll concatenation
@@ -42,7 +43,7 @@ taken-more {s} {gs} {r} p ps none t =
       all = λ e. rw none (t .all e);
     }
 
--- after a refusal nothing is taken
+-- After a refusal no byte is taken.
 taken-none : {s : List ℕ} {gs : List Given} (ps : List (List ℕ)) → StreamHolds s gs afterRefusal → Taken s gs afterRefusal ps
 taken-none {s} {gs} ps h =
     record {
@@ -62,7 +63,7 @@ taken-holds {s} {gs} {r} (p ∷ ps) h = by (parts h .ends) h (taken-holds ps (fe
     by (kept j) h later = taken-more p ps (kept-left p j) later
     by (refused-rest j) h later = taken-none (p ∷ ps) h
 
--- ---- from a reset on
+-- ---- From a reset on
 
 module _ (ps : List (List ℕ)) where
   abbrev f : Fed
