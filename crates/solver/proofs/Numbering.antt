@@ -1,4 +1,5 @@
--- The number that the code finds is the first row of 11 to 14 that applies; where it is none, the sweep lists every bracket.
+-- The number that the code finds is that of the first row of 11 to 14 that applies (`number-is`). If no row applies, the sweep lists
+-- every bracket (`few`, `entries-are`, `count-is`).
 use mathlib.Core.Path.{_≡_, refl, sym, ap, _∙_}
 use mathlib.Core.Bool.{Bool, true, false, cond, not, _&&_}
 use mathlib.Core.List.{List, map}
@@ -19,7 +20,7 @@ use Rattle.solver.specs.Table.{crossingCount, anyVoid, allFinite, lateCh
 use Rattle.solver.specs.Internals.{lateNumber}
 use Rattle.solver.specs.Solve.{refused, answered, settledOf}
 
--- the rows as a chain of choices
+-- The rows as a chain of conditions.
 abbrev pub rows : Bool → Bool → Bool → Bool → ℕ
 rows none void ninth finite = cond (none && not void) 11 (cond (none && void) 12 (cond ninth 13 (cond (not finite) 14 0)))
 
@@ -33,10 +34,11 @@ by-walk false false true count e = rw e
 by-walk false false false count e = rw e
 
 module _ (p : Problem) where
-  -- what the sweep of a problem says, and how its brackets fared
+  -- The result of a problem's sweep: the listed brackets, their count, and the walk.
   abbrev pub found : Crossings
   found = sweepOf (sidesOf p) (gridOf p) (lastPlace p)
 
+  -- Whether the velocities of all listed brackets are finite.
   abbrev pub finiteFound : Bool
   finiteFound = every (finiteFor p) (take (found .count) (found .list))
 
@@ -71,7 +73,7 @@ module _ (p : Problem) where
       ∙ by-ninth (ltb 8 (crossingCount p)) refl
       ∙ sym rows-are
 
-  -- ---- where no row applies
+  -- ---- The case that no row applies
 
   not-ninth : (none void ninth finite : Bool) → rows none void ninth finite ≡ 0 → ninth ≡ false
   not-ninth none void false finite e = refl
@@ -91,7 +93,7 @@ module _ (p : Problem) where
   unfolding entriesOf bracketsOf
   count-is h = few-count h ∙ sym (length-map (bracketsOf p) (entryFor p) ∙ length-is (sidesOf p) (gridOf p) (lastPlace p))
 
-  -- ---- what comes of it
+  -- ---- The result for the problem
 
   module _ (buffer : List ℕ) where
     pub refused-is : (n : ℕ) → n ≡ firstOf (lateChecks p) → (n ≡ 0 → ⊥) → settledOf p buffer ≡ refused n buffer

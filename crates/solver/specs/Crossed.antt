@@ -1,4 +1,4 @@
--- A problem's crossings, and the entries of its answer (01, Stations, sides, crossings). Definitions only.
+-- The crossings of a problem, and the entries of its answer (01, Stations, sides, crossings). Definitions only.
 use Prim.Native.Nat.{ℕ}
 use mathlib.Core.List.{List, map}
 use lib.IntN.{ℤ}
@@ -14,28 +14,30 @@ use Rattle.stations.specs.declared.search.Search.{Search}
 use Rattle.stations.specs.declared.side.Side.{Side}
 use Rattle.entries.specs.Entries.{entryFor}
 
--- what a problem's sweep looks for
+-- The search of a problem: its triangle, whole revolutions and wanted time.
 abbrev pub searchOf : Problem → Search
 searchOf p = record { triangle = p .triangle; revolutions = p .revolutions; wanted = p .wanted }
 
--- which side of the wanted time each place of a problem is on
+-- The side of each place, for a problem.
 unfoldable pub sidesOf : Problem → ℤ → Side
 sidesOf p = sideAt (searchOf p)
 
--- the index of the last station
+-- The index of the last station.
 abbrev pub lastStation : Problem → ℕ
 lastStation p = lastOf (p .revolutions)
 
--- the places that are looked at and the index of the last one, and the brackets of all crossings in rising x
+-- The grid of a problem: the places that its sweep looks at.
 abbrev pub gridOf : Problem → Grid
 gridOf p = gridFor (searchOf p)
 
+-- The index of the last place in this grid.
 abbrev pub lastPlace : Problem → ℕ
 lastPlace p = lastFor (searchOf p)
 
+-- The brackets of all crossings in rising x.
 unfoldable pub bracketsOf : Problem → List Bracket
 bracketsOf p = brackets (sidesOf p) (gridOf p) (lastPlace p)
 
--- the entries of all crossings in rising x
+-- The entries of all crossings in rising x.
 unfoldable pub entriesOf : Problem → List Entry
 entriesOf p = map (entryFor p) (bracketsOf p)

@@ -1,5 +1,5 @@
-// A question's bytes to its answer or its refusal (01): the entrance checks, the sweep, and for each
-// crossing its bracket, the chosen end and the velocities there.
+// Solves a question: from its bytes to its answer or refusal (01). The steps are the entrance checks, the sweep, and for each crossing
+// its bracket, the chosen end and the velocities there.
 ghost use mathlib.Core.Path.{_≡_};
 ghost use Rattle.solver.specs.Solve.{settledOf, solveOf};
 
@@ -10,14 +10,13 @@ use entrance::Problem;
 use numbers::late_number;
 use stations::Search;
 
-// What comes of a question: the number of its refusal, or how many entries its answer has.
+// The result of solving a question: the number of its refusal, or how many entries its answer has.
 pub enum Outcome {
     Refused(u16),
     Answered(u16),
 }
 
-// Judges and solves a question. An answer is written at the buffer's start; a refusal leaves the
-// buffer untouched.
+// Judges and solves a question. Writes an answer at the start of the buffer; a refusal leaves the buffer untouched.
 pub fn solve(question: &[u8], answer: &mut [u8]) -> Outcome
     ensures outcome { λ r. ⌜ r ≡ solveOf (now (question .entry)) (now (answer .entry)) .outcome ⌝ }
     ensures buffer { λ _. ⌜ now (answer .exit) ≡ solveOf (now (question .entry)) (now (answer .entry)) .buffer ⌝ }
@@ -28,7 +27,7 @@ pub fn solve(question: &[u8], answer: &mut [u8]) -> Outcome
     }
 }
 
-// Solves a problem that is past the entrance checks.
+// Solves a problem that has passed the entrance checks.
 fn settle(p: Problem, answer: &mut [u8]) -> Outcome
     ensures outcome { λ r. ⌜ r ≡ settledOf p (now (answer .entry)) .outcome ⌝ }
     ensures buffer { λ _. ⌜ now (answer .exit) ≡ settledOf p (now (answer .entry)) .buffer ⌝ }

@@ -1,10 +1,10 @@
-// The numbers 11 to 14.
+// The refusal numbers 11 to 14.
 ghost use mathlib.Core.Path.{_≡_};
 ghost use Rattle.solver.specs.Internals.{velocityNumber, lateNumber};
 use sweep::Walk;
 
-// The number of the first row from 11 to 14 that applies, or 0: of what the sweep says, and of
-// whether all velocities are finite.
+// Returns the number of the first row from 11 to 14 in 01's table that applies, or 0 if none does. The sweep has given `walk` and
+// `count`, and `finite` says whether all velocities are finite.
 pub(crate) fn late_number(walk: Walk, count: usize, finite: bool) -> u16
     ensures { λ r. ⌜ r ≡ lateNumber walk count finite ⌝ }
 {

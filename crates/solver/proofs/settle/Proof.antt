@@ -1,4 +1,4 @@
--- `settle` meets its contract: the number of the first row that applies, or the answer over the buffer's start.
+-- `settle` meets its contract: it returns the number of the first row that applies, or writes the answer at the start of the buffer.
 use borrow.Author.Needs.{needs}
 use mathlib.Core.Path.{_≡_, sym, ap, _∙_, subst}
 use mathlib.Core.List.{List, map}
@@ -23,11 +23,11 @@ use Rattle.solver.proofs.Numbering.{found, most-eight, number-is, few, 
 use Rattle.solver.proofs.settle.Statement.{statement}
 use Rattle.solver.proofs.settle.Tie as tie
 
--- a problem's answer with some entries, laid over a buffer
+-- The buffer with a problem's answer, made of the given entries, written at its start.
 with-answer : Problem → List ℕ → List Entry → List ℕ
 with-answer p buffer es = written buffer (answerBytes (p .job) (p .revision) es)
 
--- what the sweep returned is what is said of the problem
+-- The sweep returned the crossings that `found` defines for the problem.
 found-is : (c : tie.After-find-crossings) → c .find-crossings .result ≡ found (c .before .before .before .args .p)
 unfolding sidesOf
 found-is c = c .find-crossings .ensures
@@ -35,7 +35,7 @@ found-is c = c .find-crossings .ensures
 count-most : (c : tie.After-find-crossings) → c .find-crossings .result .count ≤ mostEntries
 count-most c = subst (λ (x : Crossings). x .count ≤ mostEntries) (sym (found-is c)) (most-eight (c .before .before .before .args .p))
 
--- all entries are finite where the brackets' velocities are
+-- `all_finite` returned whether the velocities of all listed brackets are finite.
 finite-at : (c : tie.After-all-finite) →
     let at = c .before .before .before in
     let x = at .find-crossings .result in
@@ -48,7 +48,7 @@ finite-at c =
     ∙ ap (every entryFinite) (made .entries-of .ensures .1)
     ∙ every-entry (at .before .before .before .args .p) (take (x .count) (x .list))
 
--- and the number is that of the first row that applies
+-- `late_number` returned the number of the first row that applies.
 number-at : (c : tie.After-late-number) →
     c .late-number .result ≡ firstOf (lateChecks (c .before .before .before .before .before .before .before .args .p))
 number-at c =
@@ -84,7 +84,7 @@ returns c =
 write-answer-requires : tie.Need-write-answer-requires
 write-answer-requires c κs = tt
 
--- from where the answer was written to the test of the number
+-- Steps back from the point after the answer was written: to the test of the number, and to the result of the sweep.
 abbrev none-at : tie.After-write-answer → tie.Else1
 none-at c = c .before .before
 

@@ -1,4 +1,4 @@
--- `solve` meets its contract: the entrance's number, or what comes of the problem.
+-- `solve` meets its contract: it returns the number that the entrance checks gave, or the result for the problem.
 use borrow.Author.Needs.{needs}
 use mathlib.Core.Path.{sym, ap, _∙_}
 use Rattle.entrance.specs.declared.Judged.{Judged}

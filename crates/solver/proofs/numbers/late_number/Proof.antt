@@ -1,4 +1,4 @@
--- `late_number` meets its contract: by the case of the walk and the test of the count.
+-- `late_number` meets its contract, by cases on the walk and on the test of the count.
 use borrow.Author.Tests.{eq-eqb, ne-eqb}
 use borrow.Author.Needs.{needs}
 use Rattle.solver.proofs.numbers.late_number.Statement.{statement}

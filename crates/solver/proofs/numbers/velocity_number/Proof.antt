@@ -1,4 +1,4 @@
--- `velocity_number` meets its contract: by its test.
+-- `velocity_number` meets its contract, in both branches of its test.
 use borrow.Author.Needs.{needs}
 use Rattle.solver.proofs.numbers.velocity_number.Statement.{statement}
 use Rattle.solver.proofs.numbers.velocity_number.Tie as tie
