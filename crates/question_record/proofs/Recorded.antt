@@ -1,5 +1,6 @@
--- The record of a question: with room for the longest, what a call leaves in the buffer is the record's bytes, or a refusal's bytes go
--- there; the buffer's own size and contents play no part in it.
+-- The record of a question, if the buffer has room for the longest answer: if `solve` answers, the buffer holds the record
+-- (`when-answered`); if it refuses, the buffer is untouched and the record is that of the refusal (`when-refused`). The record depends on
+-- neither the size nor the contents of the buffer.
 use mathlib.Core.Path.{_≡_, refl, sym, ap, _∙_}
 use mathlib.Core.Bool.{Bool, true, false, cond}
 use mathlib.Core.List.{List}
@@ -25,7 +26,7 @@ use Rattle.solver.specs.Table.{lateChecks}
 use Rattle.solver.proofs.Numbering.{few, count-is, most-eight}
 use Rattle.solver.specs.Solve.{Solved, refused, answered, settledOf, solvedAfter, solveOf}
 
--- the verdict on a question is the same for every buffer with room
+-- The verdict on a question is the same for every buffer with room for the longest answer.
 pub room-same : (question : List ℕ) (room : ℕ) → answerRoom ≤ room → judgeOf question room ≡ judgeOf question answerRoom
 unfolding judgeOf checks smallBuffer
 room-same question room h = rw (le-ltb room answerRoom h)
@@ -33,10 +34,11 @@ room-same question room h = rw (le-ltb room answerRoom h)
 pub apart : {P : Type 0} {m n : ℕ} → Refused m ≡ Answered n → P
 apart e = absurd (let z : _≡_ {A = ℕ} 0 1 = cc e in omega (arith, z))
 
--- ---- an answer: the buffer holds the record
+-- ---- An answer: the buffer holds the record
 
 module _ (question buffer : List ℕ) (n : ℕ) where
-  -- the record that a verdict leads to is laid over the buffer, and has so many entries
+  -- The final buffer is the given one with the record's bytes written at its start, and the record has the size of an answer with n
+  -- entries.
   abbrev Laid : Solved → List ℕ → Type 0
   Laid s bytes = (s .buffer ≡ written buffer bytes) × (length bytes ≡ answerSize n)
 
@@ -54,7 +56,7 @@ module _ (question buffer : List ℕ) (n : ℕ) where
   answer-by (Refused m) e = apart e
   answer-by (Accepted p) e = answer-row p (eqb (firstOf (lateChecks p)) 0) e
 
-  -- ---- a refusal: the buffer is untouched, and the record is the refusal's
+  -- ---- A refusal: the buffer is untouched, and the record is that of the refusal
 
   abbrev Left : Solved → List ℕ → Type 0
   Left s bytes = (s .buffer ≡ buffer) × (bytes ≡ refusalRecord question n)
@@ -71,7 +73,7 @@ module _ (question buffer : List ℕ) (n : ℕ) where
   refusal-by (Refused m) e = let k : m ≡ n = cc e in (refl, ap (refusalRecord question) k)
   refusal-by (Accepted p) e = refusal-row p (eqb (firstOf (lateChecks p)) 0) e
 
-  -- ---- of a call, with room
+  -- ---- A call with room for the longest answer
 
   module _ (h : answerRoom ≤ length buffer) where
     with-room : solveOf question buffer ≡ solvedAfter (judgeOf question answerRoom) buffer
@@ -86,7 +88,7 @@ module _ (question buffer : List ℕ) (n : ℕ) where
     unfolding recordOf
     when-refused e = rw with-room (refusal-by (judgeOf question answerRoom) (sym (ap (λ (s : Solved). s .outcome) with-room) ∙ e))
 
--- ---- what `write_record` returns and leaves
+-- ---- What `write_record` returns, and what it leaves in the buffer
 
 module _ (question buffer : List ℕ) where
   pub no-room : length buffer < answerRoom → outputOf question buffer ≡ record { size = 0; buffer = buffer }
@@ -107,7 +109,7 @@ refusal-record-length question n = by (eqb n 1)
     by true = refusal-length 0 0 n
     by false = refusal-length (jobOf question) (revisionOf question) n
 
--- a record is never longer than the longest answer
+-- A record is never longer than the longest answer.
 short-row : (question : List ℕ) (p : Problem) (none : Bool) → eqb (firstOf (lateChecks p)) 0 ≡ none
     → length (cond none (answerBytes (p .job) (p .revision) (entriesOf p)) (refusalRecord question (firstOf (lateChecks p)))) ≤ answerRoom
 short-row question p true e =

@@ -1,5 +1,5 @@
--- The whole record of a question: with room for the longest, `write_record` leaves it at the buffer's start and returns its length
--- (`whole-record`).
+-- If the buffer has room for the longest answer, `write_record` leaves the whole record of a question at its start and returns the
+-- record's length (`whole-record`).
 use mathlib.Core.Path.{_≡_, sym, ap, _∙_}
 use mathlib.Core.List.{List, _++_}
 use Prim.Native.Nat.{ℕ, _≤_}
@@ -13,7 +13,7 @@ use Rattle.records.specs.Layout.{answerRoom}
 use Rattle.question_record.proofs.Recorded.{has-room, record-short}
 
 module _ (question buffer : List ℕ) (room : answerRoom ≤ length buffer) where
-  -- the record's bytes are the buffer's front, and the rest stays
+  -- The buffer begins with the record's bytes, and the rest of it keeps its contents.
   pub record-laid : written buffer (recordOf question) ≡ recordOf question ++ drop (length (recordOf question)) buffer
   record-laid = laid buffer (recordOf question) (omega (arith, record-short question, room))
 
@@ -26,7 +26,8 @@ module _ (question buffer : List ℕ) (room : answerRoom ≤ length buffer) wher
       ∙ ap (take (length (recordOf question))) record-laid
       ∙ take-append-seam (recordOf question) (drop (length (recordOf question)) buffer)
 
--- what a call returns, and what it leaves in a buffer: as many bytes as the record has, and these first
+-- What a call returns, and what it leaves in a buffer: the size is the number of bytes in the record, and the buffer begins with these
+-- bytes.
 pub record Stands (question : List ℕ) (size : ℕ) (buffer : List ℕ) : Type 0 where
   pub sized : size ≡ length (recordOf question)
   pub within : size ≤ length buffer

@@ -1,4 +1,4 @@
--- The record of a question: its answer or its refusal, given room for the longest answer (01, Records on the wire). Definitions only.
+-- The record of a question: its answer or its refusal, with room for the longest answer (01, Records on the wire). Definitions only.
 use Prim.Native.Nat.{ℕ}
 use mathlib.Core.Bool.{cond}
 use mathlib.Core.List.{List}
@@ -13,22 +13,24 @@ use Rattle.entrance.specs.declared.Judged.the-variants.{Refused, Accepted}
 use Rattle.solver.specs.Crossed.{entriesOf}
 use Rattle.solver.specs.Table.{lateChecks}
 
--- the record of a refused question has its job and revision, both 0 where the number is 1
+-- The record of a refused question has its job and revision, or 0 for both if the number is 1.
 unfoldable pub refusalRecord : List ℕ → ℕ → List ℕ
 refusalRecord question n =
     cond (eqb n 1) (refusalBytes 0 0 n) (refusalBytes (jobOf question) (revisionOf question) n)
 
+-- The record of a question that was judged.
 abbrev pub recordAfter : List ℕ → Judged → List ℕ
 recordAfter question (Refused n) = refusalRecord question n
 recordAfter question (Accepted p) =
     let n = firstOf (lateChecks p) in
     cond (eqb n 0) (answerBytes (p .job) (p .revision) (entriesOf p)) (refusalRecord question n)
 
+-- The record of a question, judged with room for the longest answer.
 unfoldable pub recordOf : List ℕ → List ℕ
 recordOf question = recordAfter question (judgeOf question answerRoom)
 
--- what `write_record` returns, and what the buffer then holds: the record's size, and the record laid over the buffer's start. Without room
--- for the longest answer it is 0, and the buffer stays untouched: a choice of ours
+-- What `write_record` returns, and what the buffer holds after it: the record's size, and the record written at the start of the buffer.
+-- If the buffer has no room for the longest answer, the size is 0 and the buffer stays untouched. This last rule is our own choice.
 pub record Output : Type 0 where
   pub size : ℕ
   pub buffer : List ℕ

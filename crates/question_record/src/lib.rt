@@ -1,4 +1,4 @@
-// The record of a question: its answer, or its refusal.
+// Writes the record of a question: its answer or its refusal.
 ghost use mathlib.Core.Path.{_≡_};
 ghost use Rattle.question_record.specs.Record.{refusalRecord, outputOf};
 ghost use Rattle.little_endian.specs.Bytes.{written};
@@ -6,8 +6,8 @@ use records::ANSWER_ROOM;
 use solver::Outcome;
 use solver::solve;
 
-// Writes the record of a question at the buffer's start and returns its size. Without room for the longest
-// answer the buffer stays untouched, and the size is 0.
+// Writes the record of a question at the start of the buffer and returns its size. If the buffer has no room for the longest answer, it
+// stays untouched and the size is 0.
 pub fn write_record(question: &[u8], out: &mut [u8]) -> usize
     ensures size { λ r. ⌜ r ≡ outputOf (now (question .entry)) (now (out .entry)) .size ⌝ }
     ensures buffer { λ _. ⌜ now (out .exit) ≡ outputOf (now (question .entry)) (now (out .entry)) .buffer ⌝ }
@@ -24,7 +24,7 @@ pub fn write_record(question: &[u8], out: &mut [u8]) -> usize
     }
 }
 
-// Writes the refusal of a question. Number 1 says that the bytes are no question, and names no job.
+// Writes the refusal of a question. Number 1 means that the bytes are not a well-formed question, so its record has job 0 and revision 0.
 fn write_refusal_of(question: &[u8], number: u16, out: &mut [u8])
     ensures { λ _. ⌜ now (out .exit) ≡ written (now (out .entry)) (refusalRecord (now (question .entry)) number) ⌝ }
 {

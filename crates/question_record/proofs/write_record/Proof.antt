@@ -1,4 +1,4 @@
--- `write_record` meets its contract: an answer stands in the buffer already, and a refusal's record is written over it.
+-- `write_record` meets its contract: an answer is in the buffer already, and the record of a refusal is written at its start.
 use mathlib.Core.Path.{sym, ap, _∙_}
 use mathlib.Core.List.{List}
 use Prim.Native.Nat.{ℕ}
@@ -37,7 +37,7 @@ refusal-size-requires c κs = tt
 same-length : tie.Need-same-length
 same-length c = search needs
 
--- from where the question was solved to the test of the room
+-- Steps back from the point after the question was solved: to the test of the room, and to the start.
 abbrev room-at : tie.After-solve → tie.Else1
 room-at c = c .before .before
 

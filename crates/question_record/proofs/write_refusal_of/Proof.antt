@@ -1,4 +1,4 @@
--- `write_refusal_of` meets its contract: by the test of the number.
+-- `write_refusal_of` meets its contract, in both branches of the test of the number.
 use borrow.Author.Tests.{eq-eqb, ne-eqb}
 use Rattle.question_record.specs.Record.{refusalRecord}
 use borrow.Author.Needs.{needs}
