@@ -1,6 +1,7 @@
--- The records of a whole input, said without the count of its slots: nothing for an empty one (`empty-input`); a whole question's
--- record, and then those of what follows it (`question-first`); number 1 for a short last slot (`short-last`). And the steps
--- make the whole: what one slot gives, and then, where another may follow, the records of the rest (`records-by-steps`).
+-- The output for a whole input, without a count of its slots: an empty input has an empty output (`empty-input`); a whole question gives
+-- its record, followed by the output for the rest (`question-first`); a short last slot gives number 1 (`short-last`). The output is also
+-- that of the slots one by one: the output for one slot, followed by the output for the rest if another slot may follow
+-- (`records-by-steps`).
 use mathlib.Core.Path.{_≡_, refl, sym, ap, _∙_}
 use mathlib.Core.Bool.{Bool, true, false, cond}
 use mathlib.Core.List.{List, [], _∷_, _++_, append-nil}
@@ -21,7 +22,7 @@ no-bytes : (input : List ℕ) → length input ≡ 0 → input ≡ []
 no-bytes [] h = refl
 no-bytes (b ∷ bs) h = absurd (omega (arith, h))
 
--- ---- as many slots as bytes are all
+-- ---- The bound on the number of slots
 
 no-slots : (n : ℕ) → slotsIn n [] ≡ []
 unfolding slotsIn
@@ -39,13 +40,13 @@ enough (suc m) (suc n) (b ∷ bs) h k =
     left : (i : ℕ) → length (b ∷ bs) ≤ suc i → length (drop questionSize (b ∷ bs)) ≤ i
     left i l = omega (arith, length-drop questionSize (b ∷ bs), l)
 
--- ---- the records
+-- ---- The records
 
 pub empty-input : recordsOf [] ≡ []
 unfolding recordsOf slotsOf slotsIn recordsFor
 empty-input = refl
 
--- some bytes: the record of the first slot, and then those of what follows it
+-- An input that is not empty: the record of its first slot, followed by the output for the rest.
 slot-first : (input : List ℕ) → 0 < length input →
     recordsOf input ≡ recordOf (take questionSize input) ++ recordsOf (drop questionSize input)
 unfolding recordsOf slotsOf slotsIn recordsFor
@@ -65,7 +66,7 @@ question-first question rest h =
     slot-first (question ++ rest) some ∙ ap (λ (s : List ℕ). recordOf s ++ recordsOf (drop questionSize (question ++ rest))) front
     ∙ ap (λ (s : List ℕ). recordOf question ++ recordsOf s) behind
 
--- fewer bytes than a slot has: one record
+-- An input that is not empty and not longer than a slot: one record.
 one-slot : (s : List ℕ) → 0 < length s → length s ≤ questionSize → recordsOf s ≡ recordOf s
 one-slot s h k =
     let none : drop questionSize s ≡ [] = no-bytes (drop questionSize s) (omega (arith, length-drop questionSize s)) in
@@ -76,7 +77,7 @@ one-slot s h k =
 pub short-last : (s : List ℕ) → 0 < length s → length s < questionSize → recordsOf s ≡ refusalBytes 0 0 1
 short-last s h k = one-slot s h (omega arith) ∙ other-size s (λ e. omega (arith, e, k))
 
--- ---- the steps make the whole
+-- ---- The output slot by slot
 
 module _ (input : List ℕ) (some : 0 < length input) where
   whole-slot : questionSize ≤ length input → BySteps input

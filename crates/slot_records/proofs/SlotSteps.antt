@@ -1,4 +1,4 @@
--- What is written for a slot of which nothing came, and for any other.
+-- The output for a slot of which no byte was read (`none-came`, `none-reply`, `none-written`), and for any other slot (`some-came`).
 use mathlib.Core.Path.{_≡_, sym, ap, _∙_}
 use mathlib.Core.Bool.{false}
 use mathlib.Core.List.{List, []}

@@ -1,5 +1,5 @@
-// The record of a question, whole, in a buffer that has room for any; and what comes of a slot of an input. The programs that
-// answer questions write these.
+// Writes the whole record of a question into a buffer that has room for any record, and decides what to write for one slot of an input.
+// The programs that answer questions use these functions.
 ghost use mathlib.Core.Path.{_≡_};
 ghost use lib.ListN.{length, take};
 ghost use Rattle.question_record.specs.Record.{recordOf};
@@ -9,7 +9,7 @@ ghost use Rattle.slot_records.specs.Inputs.{slotRecord, slotReply};
 use records::ANSWER_ROOM;
 use records::QUESTION_ROOM;
 
-// Puts the record of a question at the buffer's start, and returns its size.
+// Writes the record of a question at the start of the buffer and returns its size.
 pub fn record_of(question: &[u8], out: &mut [u8; ANSWER_ROOM]) -> usize
     ensures size { λ r. ⌜ r ≡ length (recordOf (now (question .entry))) ⌝ }
     ensures buffer { λ _. ⌜ now (out .exit) ≡ written (now (out .entry)) (recordOf (now (question .entry))) ⌝ }
@@ -19,13 +19,14 @@ pub fn record_of(question: &[u8], out: &mut [u8; ANSWER_ROOM]) -> usize
     question_record::write_record(question, out)
 }
 
-// What comes of a slot: how many bytes at the buffer's start are to be written, and whether another slot may follow.
+// The reply to a slot: how many bytes at the start of the buffer are to be written, and whether another slot may follow.
 pub struct SlotReply {
     pub size: usize,
     pub another: bool,
 }
 
-// Puts what is to be written for a slot at the buffer's start, by the bytes of the slot that came.
+// Puts the bytes to be written for a slot at the start of the buffer. `came` is the part of the slot that was read. It is empty at the
+// end of the input, and then there is nothing to write.
 pub fn answer_slot(came: &[u8], out: &mut [u8; ANSWER_ROOM]) -> SlotReply
     ensures reply { λ r. ⌜ r ≡ slotReply (now (came .entry)) ⌝ }
     ensures buffer { λ _. ⌜ now (out .exit) ≡ written (now (out .entry)) (slotRecord (now (came .entry))) ⌝ }

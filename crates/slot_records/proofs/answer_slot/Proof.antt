@@ -1,4 +1,4 @@
--- `answer_slot` meets its contract: nothing is written where nothing came, and else the record of what came.
+-- `answer_slot` meets its contract: it writes nothing if no byte was read, and otherwise the record of the bytes that were read.
 use borrow.Author.Needs.{needs}
 use mathlib.Core.Path.{_≡_, sym, ap, _∙_}
 use Prim.Native.Nat.{ℕ}

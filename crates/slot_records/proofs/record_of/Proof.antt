@@ -1,4 +1,4 @@
--- `record_of` meets its contract: the buffer has room for every record, so that the whole record stands at its start.
+-- `record_of` meets its contract: the buffer has room for every record, so the whole record is at its start.
 use borrow.Author.Needs.{needs}
 use mathlib.Core.Path.{ap, _∙_}
 use Prim.Native.Nat.{_≤_}
