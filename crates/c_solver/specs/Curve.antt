@@ -1,4 +1,4 @@
--- What a host that draws a question's curve is told. Definitions only.
+-- The values for a host that draws a question's curve. Definitions only.
 use Prim.Native.Nat.{ℕ, _+_}
 use mathlib.Core.List.{List}
 use lib.IntN.{ℤ}
@@ -11,29 +11,33 @@ use Rattle.entries.specs.Entries.{placeOf}
 use Rattle.solver.specs.Crossed.{lastStation}
 use Rattle.records.specs.Layout.{answerRoom}
 
--- where there is no time: all ones, a choice of ours, as for a void place
+-- The value if there is no time: all bits are ones, as for a void place. This is our own choice.
 abbrev pub noTime : ℕ
 noTime = 0xFFFF_FFFF_FFFF_FFFF
 
--- the wanted time, how many stations there are, and the time at a place, of a question that was judged
+-- The bits of the wanted time of a question that was judged.
 abbrev pub wantedAfter : Judged → ℕ
 wantedAfter (Refused n) = noTime
 wantedAfter (Accepted p) = bitsOf (p .wanted)
 
+-- How many stations a question that was judged has.
 abbrev pub stationsAfter : Judged → ℕ
 stationsAfter (Refused n) = 0
 stationsAfter (Accepted p) = lastStation p + 1
 
+-- The bits of the time at a place, for a question that was judged.
 abbrev pub timeAfter : Judged → ℤ → ℕ
 timeAfter (Refused n) k = noTime
 timeAfter (Accepted p) k = placeBits (placeOf p k)
 
--- and of its bytes, judged with room for the longest answer
+-- The bits of the wanted time of a question, judged with room for the longest answer.
 unfoldable pub wantedBits : List ℕ → ℕ
 wantedBits question = wantedAfter (judgeOf question answerRoom)
 
+-- How many stations a question has, judged in the same way.
 unfoldable pub stationCount : List ℕ → ℕ
 stationCount question = stationsAfter (judgeOf question answerRoom)
 
+-- The bits of the time at a place, for a question judged in the same way.
 unfoldable pub timeBits : List ℕ → ℤ → ℕ
 timeBits question k = timeAfter (judgeOf question answerRoom) k

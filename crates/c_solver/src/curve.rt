@@ -1,15 +1,16 @@
-// The curve that a question asks about, for hosts that draw it: the wanted time T*, the stations, and
-// the time T at any place, both as 01 has them and not in seconds. A time is told by its bits, all ones
-// where there is none; a question that does not pass the entrance checks has no time and no station.
+// The curve of a question, for hosts that draw it: the wanted time T*, the stations, and the time T at any place. T* and T are in the
+// unit of 01, not in seconds. A time is returned as its bits, all of them ones if there is no time. A question that does not pass the
+// entrance checks has no time and no station.
 ghost use mathlib.Core.Path.{_≡_};
 ghost use Rattle.stations.specs.Stations.{stationOf};
 ghost use Rattle.c_solver.specs.Curve.{wantedBits, stationCount, timeBits};
 use entrance::Judged;
 use records::ANSWER_ROOM;
 
-// What is told where there is no time.
+// The value returned if there is no time.
 const NO_TIME: u64 = 0xFFFF_FFFF_FFFF_FFFF;
 
+// Returns the bits of the wanted time.
 #[no_mangle]
 pub extern "C" fn lambert_wanted(question: &[u8]) -> u64
     ensures { λ r. ⌜ r ≡ wantedBits (now (question .entry)) ⌝ }
@@ -20,7 +21,7 @@ pub extern "C" fn lambert_wanted(question: &[u8]) -> u64
     }
 }
 
-// How many stations the question's grid has.
+// Returns how many stations the question's grid has.
 #[no_mangle]
 pub extern "C" fn lambert_stations(question: &[u8]) -> u64
     ensures { λ r. ⌜ r ≡ stationCount (now (question .entry)) ⌝ }
@@ -31,7 +32,7 @@ pub extern "C" fn lambert_stations(question: &[u8]) -> u64
     }
 }
 
-// The place k of station i, counted from 0, for any i; which of them a question has is told above.
+// Returns the place k of station i, counted from 0, for any i. See `lambert_stations` for how many stations a question has.
 #[no_mangle]
 pub extern "C" fn lambert_station(i: u16) -> i64
     ensures { λ r. ⌜ r ≡ stationOf i ⌝ }
@@ -39,7 +40,7 @@ pub extern "C" fn lambert_station(i: u16) -> i64
     stations::station(i)
 }
 
-// The time at the place k.
+// Returns the bits of the time at the place k.
 #[no_mangle]
 pub extern "C" fn lambert_time(question: &[u8], k: i64) -> u64
     ensures { λ r. ⌜ r ≡ timeBits (now (question .entry)) k ⌝ }

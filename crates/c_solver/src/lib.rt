@@ -1,6 +1,5 @@
-// The C interface to the solver, for hosts in other languages: to solve a question, and to draw its curve. A slice is a pointer and a
-// length; the memory of a
-// question and of a buffer must not overlap.
+// The C interface to the solver, for hosts in other languages: it solves a question, and gives the values of its curve. A slice is a
+// pointer and a length. The memory of a question and of a buffer must not overlap.
 ghost use mathlib.Core.Path.{_≡_};
 ghost use Rattle.question_record.specs.Record.{outputOf};
 ghost use Rattle.solver.specs.Solve.{outcomeNumber, solveOf};
@@ -11,7 +10,7 @@ use question_record::write_record;
 use solver::Outcome;
 use solver::solve;
 
-// `solve`, with 0 for an answer and the number of a refusal.
+// Calls `solve`. Returns 0 for an answer, or the number of the refusal.
 #[no_mangle]
 pub extern "C" fn lambert_solve(question: &[u8], answer: &mut [u8]) -> u16
     ensures outcome { λ r. ⌜ r ≡ outcomeNumber (solveOf (now (question .entry)) (now (answer .entry)) .outcome) ⌝ }
@@ -23,7 +22,7 @@ pub extern "C" fn lambert_solve(question: &[u8], answer: &mut [u8]) -> u16
     }
 }
 
-// `write_record`.
+// Calls `write_record` and returns its result.
 #[no_mangle]
 pub extern "C" fn lambert_record(question: &[u8], out: &mut [u8]) -> usize
     ensures size { λ r. ⌜ r ≡ outputOf (now (question .entry)) (now (out .entry)) .size ⌝ }

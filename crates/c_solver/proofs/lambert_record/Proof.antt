@@ -1,4 +1,4 @@
--- `lambert_record` meets its contract: it is `write_record`.
+-- `lambert_record` meets its contract, which is that of `write_record`.
 use borrow.Author.Needs.{needs}
 use Rattle.c_solver.proofs.lambert_record.Statement.{statement}
 use Rattle.c_solver.proofs.lambert_record.Tie as tie

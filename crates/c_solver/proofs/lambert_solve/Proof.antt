@@ -1,4 +1,4 @@
--- `lambert_solve` meets its contract: the number of the outcome that `solve` returns.
+-- `lambert_solve` meets its contract: it returns the number of the outcome that `solve` returned.
 use mathlib.Core.Path.{sym, ap, _∙_}
 use Rattle.solver.specs.Solve.{outcomeNumber}
 use borrow.Author.Needs.{needs}

@@ -1,4 +1,4 @@
--- `lambert_stations` meets its contract: by what the entrance says.
+-- `lambert_stations` meets its contract, by cases on the result of the entrance checks.
 use mathlib.Core.Path.{sym}
 use Rattle.c_solver.specs.Curve.{stationCount}
 use borrow.Author.Needs.{needs}

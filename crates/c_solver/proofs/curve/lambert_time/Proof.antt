@@ -1,4 +1,4 @@
--- `lambert_time` meets its contract: by what the entrance says, and what the place is.
+-- `lambert_time` meets its contract, by cases on the result of the entrance checks, and by the contracts of `place_at` and `place_bits`.
 use mathlib.Core.Path.{sym}
 use mir.Facts.{toZ-ofZ}
 use Rattle.c_solver.specs.Curve.{timeBits}

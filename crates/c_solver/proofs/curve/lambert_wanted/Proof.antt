@@ -1,4 +1,4 @@
--- `lambert_wanted` meets its contract: by what the entrance says.
+-- `lambert_wanted` meets its contract, by cases on the result of the entrance checks.
 use mathlib.Core.Path.{sym}
 use Rattle.c_solver.specs.Curve.{wantedBits}
 use borrow.Author.Needs.{needs}
