@@ -1,15 +1,15 @@
-// Standard input, read so that its end and a failed read are told apart.
+// Reads standard input so that the caller can tell the end of the input from a failed read.
 ghost use mathlib.Core.Path.{_≡_};
 ghost use Rattle.standard_input.specs.Got.{gotOf, Within};
 use libc::STDIN_FILENO;
 
-// What came of reading: how many bytes stand at the buffer's start, or that a read failed.
+// The result of reading: how many bytes were read to the start of the buffer, or that a read failed.
 pub enum Got {
     Bytes(usize),
     Failed,
 }
 
-// What a read's answer says. A failed read is not the end of the input, which is a count of 0.
+// Interprets the return value of a read. Below 0 the read failed. A count of 0 is the end of the input and not a failure.
 fn got_by(answer: isize, part: &[u8]) -> Got
     ensures got { λ r. ⌜ r ≡ gotOf answer (now (part .entry)) ⌝ }
     ensures within { λ r. ⌜ Within (now (part .entry)) r ⌝ }
@@ -21,8 +21,8 @@ fn got_by(answer: isize, part: &[u8]) -> Got
     }
 }
 
-// Reads once, and again where a signal broke the read off before a byte came. A proved loop has to end:
-// the count is one that no run of signals reaches.
+// Reads once, and again if a signal interrupted the read before a byte arrived. The prover requires a bound on the loop, so the bound is
+// a count that no run of signals reaches.
 fn read_some(part: &mut [u8]) -> Got
     ensures { λ r. ⌜ Within (now (part .exit)) r ⌝ }
 {
@@ -35,7 +35,7 @@ fn read_some(part: &mut [u8]) -> Got
     got_by(answer, part)
 }
 
-// Reads until the buffer is full, the input ends or a read fails. Which bytes come in, no contract can say.
+// Reads until the buffer is full, the input ends or a read fails. No contract can say which bytes arrive.
 pub fn fill(buffer: &mut [u8]) -> Got
     ensures { λ r. ⌜ Within (now (buffer .exit)) r ⌝ }
 {

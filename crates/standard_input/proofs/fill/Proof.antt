@@ -1,5 +1,5 @@
--- `fill` meets its contract and ends: what was read lies within the buffer, whose length stays, and the measure is the number of
--- bytes that are left.
+-- `fill` meets its contract and ends. The invariant: the bytes read so far fit the buffer, whose length does not change. The measure is
+-- the number of bytes left to read.
 use borrow.Author.Needs.{needs}
 use borrow.Rule.Slice.PartMut.{mid-len, same-len-mid}
 use mathlib.Core.Path.{_≡_, _∙_, subst}
@@ -16,7 +16,7 @@ Inv-loop buffer₀ done₀ buffer done = (length buffer ≡ length buffer₀) ×
 abbrev μ-loop : tie.MeasureT-loop
 μ-loop buffer₀ done₀ buffer done = length buffer - done
 
--- after a read that is not the last: what came lies within the part that was lent, and so within the buffer
+-- After a read that is not the last, the new bytes are within the lent part of the buffer, and so within the buffer.
 goes-on : (c : tie.Else1 Inv-loop μ-loop) →
     let l = c .before .before .before .before .before .before .before .before .before .loop in
     l .done + c .before .before .more .given .0 .0 ≤ length (l .buffer)

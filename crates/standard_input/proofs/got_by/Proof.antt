@@ -1,4 +1,4 @@
--- `got_by` meets its contract, by the sign of the read's answer.
+-- `got_by` meets its contract, by cases on the sign of the read's return value.
 use borrow.Author.Needs.{needs}
 use mathlib.Core.Path.{_≡_, refl, ap, _∙_}
 use mathlib.Core.Bool.{true, false}

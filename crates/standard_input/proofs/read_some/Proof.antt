@@ -1,4 +1,5 @@
--- `read_some` meets its contract and ends: the part keeps its length, and the measure is the number of tries that are left.
+-- `read_some` meets its contract and ends. The invariant: the length of the buffer does not change. The measure is the number of tries
+-- left.
 use borrow.Author.Needs.{needs}
 use mathlib.Core.Path.{_≡_}
 use lib.ListN.{length}
