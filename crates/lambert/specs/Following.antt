@@ -1,4 +1,4 @@
--- What `lambert` says of the slot after one that it has answered. Definitions only.
+-- What `lambert` returns about the next slot after it has answered one. Definitions only.
 use mathlib.Core.Path.{_≡_}
 use mathlib.Core.Bool.{true, false}
 use mathlib.Core.List.{List}
@@ -7,7 +7,7 @@ use Rattle.slot_records.specs.Inputs.{slotReply}
 use Rattle.lambert.specs.declared.Next.{Next}
 use Rattle.lambert.specs.declared.Next.the-variants.{Another, Last, Failed}
 
--- what may follow the bytes of a slot that came is what the library says of them. A failed write says nothing
+-- Whether another slot may follow is what `slotReply` says for the bytes that were read. After a failed write nothing is promised.
 abbrev pub Follows : List ℕ → Next → Type 0
 Follows came Another = slotReply came .another ≡ true
 Follows came Last = slotReply came .another ≡ false

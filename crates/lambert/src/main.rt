@@ -1,19 +1,20 @@
-// Reads questions from standard input in slots of 82 bytes and writes the record of each to standard output. What is written
-// for a slot, and whether another may follow it, is the library's; here bytes are only moved.
+// Reads questions from standard input in slots of 82 bytes and writes the record of each to standard output. The library `slot_records`
+// decides what to write for a slot and whether another may follow; this program only moves bytes. If a read or write fails, `lambert`
+// prints a message to standard error and stops.
 ghost use Rattle.lambert.specs.Following.{Follows};
 use libc::STDOUT_FILENO;
 use records::ANSWER_ROOM;
 use records::QUESTION_ROOM;
 use standard_input::Got;
 
-// What follows a slot: another may, none does, or the slot could not be read or its record not be written.
+// What follows a slot: another slot may follow, none follows, or the slot could not be read or its record not be written.
 enum Next {
     Another,
     Last,
     Failed,
 }
 
-// A proved loop has to end, and nothing says that the input does: the count is one that no input reaches.
+// The prover requires a bound on the loop. The input has none, so the bound is a count that no input reaches.
 fn main() {
     let mut rounds_left = u64::MAX;
     while rounds_left > 0 {
@@ -30,7 +31,7 @@ fn main() {
     }
 }
 
-// Reads one slot and answers it, and returns what follows.
+// Reads one slot, answers it, and returns what follows.
 fn answer_one() -> Next {
     let mut slot = [0u8; QUESTION_ROOM];
     match standard_input::fill(&mut slot) {
@@ -42,7 +43,7 @@ fn answer_one() -> Next {
     }
 }
 
-// Writes what is to be written for a slot, by the bytes of it that came, and returns what follows.
+// Writes the output for a slot, of which the bytes `came` were read, and returns what follows.
 fn answer(came: &[u8]) -> Next
     ensures { λ r. ⌜ Follows (now (came .entry)) r ⌝ }
 {

@@ -1,4 +1,4 @@
--- `answer` is safe, and what it says of the next slot is what the library says of this one.
+-- `answer` is safe, and what it returns about the next slot is what `slotReply` says for this one.
 use borrow.Author.Needs.{needs}
 use mathlib.Core.Path.{_≡_, sym, ap, _∙_}
 use Rattle.slot_records.specs.declared.SlotReply.{SlotReply}
@@ -6,7 +6,7 @@ use Rattle.slot_records.specs.Inputs.{slotReply}
 use Rattle.lambert.proofs.answer.Statement.{statement}
 use Rattle.lambert.proofs.answer.Tie as tie
 
--- the reply says what the definition says
+-- The reply of `answer_slot` agrees with `slotReply` on whether another slot may follow.
 same : (c : tie.After-answer-slot) →
     slotReply (c .before .before .before .args .came .now) .another ≡ c .answer-slot .result .another
 same c = sym (ap (λ (r : SlotReply). r .another) (c .answer-slot .ensures .0))

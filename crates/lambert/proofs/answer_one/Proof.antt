@@ -1,4 +1,4 @@
--- `answer_one` is safe and ends: the bytes that `fill` says to have read lie within the slot.
+-- `answer_one` is safe and ends: the bytes that `fill` reports as read are within the slot.
 use borrow.Author.Needs.{needs}
 use mathlib.Core.Path.{sym, subst}
 use Prim.Native.Nat.{_≤_}
@@ -8,7 +8,7 @@ use Rattle.standard_input.specs.Got.{Within}
 use Rattle.lambert.proofs.answer_one.Statement.{statement}
 use Rattle.lambert.proofs.answer_one.Tie as tie
 
--- the bytes that were read lie within the slot
+-- The bytes that were read are within the slot.
 in-slot : (c : tie.After-n) → c .n .given .0 .0 ≤ length (c .before .before .before .fill .last .0)
 in-slot c =
     let fill = c .before .before .before .fill in
