@@ -1,6 +1,6 @@
-// Reads the pieces of a link from standard input, each a u16 length and so many bytes, and writes the record of each finished
-// question to standard output. A length that no question has is number 1, and nothing is read after it; a question that the
-// input's end cuts short is number 1 too.
+// Reads the pieces of a link from standard input, each a u16 size followed by that many bytes, and writes the record of each finished
+// question to standard output. A question length that is not in force gets number 1, and nothing is read after it. A question that the
+// end of the input cuts short gets number 1 too. If a read or write fails, `link` prints a message to standard error and stops.
 ghost use mathlib.Core.Path.{_≡_};
 ghost use mathlib.Core.Bool.{true};
 ghost use Prim.Native.Nat.{_≤_};
@@ -18,17 +18,17 @@ use records::ANSWER_ROOM;
 use records::QUESTION_ROOM;
 use standard_input::Got;
 
-// The longest piece.
+// The size of the longest piece.
 const LONGEST: usize = 65535;
 
-// The size of the next piece, that there is none, or that the input cannot be read.
+// The size of the next piece, the end of the input, or a failed read.
 enum Size {
     Bytes(u16),
     End,
     Failed,
 }
 
-// The reader after some input, whether more is to be read, and whether the input has ended.
+// The reader after some input, whether to read more, and whether the input has ended.
 struct Fed {
     reader: Reader,
     more: bool,
@@ -43,7 +43,7 @@ fn main() {
     }
 }
 
-// Reads and feeds every piece. A proved loop has to end, and nothing says that the input does: the count is one that no input
+// Reads and feeds every piece. The prover requires a bound on the loop. The input has none, so the bound is a count that no input
 // reaches.
 fn read_pieces() -> Fed {
     let mut bytes = [0u8; LONGEST];
@@ -85,7 +85,8 @@ fn read_size() -> Size {
     }
 }
 
-// The size of a piece, by as many bytes of it as came.
+// Returns the size of a piece from the two bytes in `head`, of which n were read. If n is below 2 the input has ended; if n is 1 it has
+// ended within a piece, and a message says so.
 fn size_of(head: &[u8], n: usize) -> Size {
     if n == 0 {
         return Size::End;
@@ -97,7 +98,7 @@ fn size_of(head: &[u8], n: usize) -> Size {
     Size::Bytes(u16_at(head, 0))
 }
 
-// Reads the bytes of a piece and feeds them; those that came count where the input's end cuts it short.
+// Reads the bytes of a piece and feeds them to the reader. If the end of the input cuts the piece short, the bytes before it are fed.
 fn read_bytes(reader: Reader, bytes: &mut [u8], size: usize) -> Fed
     requires { ⌜ size ≤ length (now bytes) ⌝ }
 {
@@ -110,7 +111,7 @@ fn read_bytes(reader: Reader, bytes: &mut [u8], size: usize) -> Fed
     }
 }
 
-// Says that the input's end cut a piece short, and gives what follows: the end, unless feeding has stopped.
+// Prints that the end of the input cut a piece short, and returns what follows: the input has ended, unless feeding has stopped before.
 fn cut_short(fed: Fed) -> Fed {
     say_cut();
     let reader = fed.reader;
@@ -134,8 +135,8 @@ fn cannot_read(reader: Reader) -> Fed {
     }
 }
 
-// Hands in a piece, and again what was not taken of it. Each call takes a byte at least, so the calls do for it. Where more is
-// to be read, the reader is the one that the whole piece leads to.
+// Passes in a piece, and passes in again the bytes that a call did not take. Each call takes at least one byte while some are left and no
+// reset is needed, so there are enough calls for the piece. If more is to be read, the returned reader is the one after the whole piece.
 fn feed(reader: Reader, piece: &[u8]) -> Fed
     ensures { λ r. ⌜ (r .more ≡ true → r .reader ≡ readerAfter reader (now (piece .entry))) ⌝ }
 {
@@ -164,7 +165,7 @@ fn feed(reader: Reader, piece: &[u8]) -> Fed
     fed
 }
 
-// Writes what came of a call, and answers whether to go on.
+// Writes the record for the result of a call, if it needs one, and returns whether to go on.
 fn answer_step(step: Step) -> bool
     requires { ⌜ sizeGiven (step .came) ≤ questionRoom ⌝ }
 {
@@ -185,7 +186,7 @@ fn answer_step(step: Step) -> bool
     }
 }
 
-// Answers the bytes of a question that the input's end cut short.
+// Writes the record of a question that the end of the input cut short, from its kept bytes.
 fn answer_kept(reader: Reader) {
     let bytes = reader.bytes;
     let count = reader.count;
@@ -194,14 +195,14 @@ fn answer_kept(reader: Reader) {
     }
 }
 
-// Answers the question that is the first n bytes.
+// Writes the record of the question in the first n bytes, and returns whether it could be written.
 fn answer_first(bytes: &[u8], n: usize) -> bool
     requires { ⌜ n ≤ length (now bytes) ⌝ }
 {
     answer(&bytes[..n])
 }
 
-// Writes the record of a question, and answers whether it could be written.
+// Writes the record of a question, and returns whether it could be written.
 fn answer(question: &[u8]) -> bool {
     let mut out = [0u8; ANSWER_ROOM];
     let n = slot_records::record_of(question, &mut out);

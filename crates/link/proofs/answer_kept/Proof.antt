@@ -1,4 +1,4 @@
--- `answer_kept` is safe: no more bytes are answered than there is room for.
+-- `answer_kept` is safe: it answers no more bytes than the reader has room for.
 use mathlib.Core.Path.{_≡_}
 use native.Mathlib.Omega.{arith}
 use lib.ListN.{length}

@@ -1,4 +1,4 @@
--- `answer_step` is safe: a finished question fits its room.
+-- `answer_step` is safe: a finished question fits its buffer.
 use mathlib.Core.Path.{_≡_, subst}
 use Prim.Native.Nat.{_≤_}
 use native.Mathlib.Omega.{arith}

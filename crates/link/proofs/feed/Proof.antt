@@ -1,6 +1,6 @@
--- `feed` is safe and ends, and the reader that it returns is the one that the whole piece leads to. The loop's invariant: no more
--- bytes are taken than the piece has, and the calls that are left, for the bytes that are left, lead to that reader. The measure
--- is how many calls are left.
+-- `feed` is safe and ends, and if more is to be read, the reader that it returns is the one after the whole piece. The loop invariant: no
+-- more bytes were taken than the piece has, and if more is to be read, the calls that are left lead from the bytes that are left to that
+-- reader. The measure is the number of calls left.
 use mathlib.Core.Path.{_≡_, refl, sym, ap, _∙_}
 use mathlib.Core.Bool.{true, cond}
 use mathlib.Core.List.{List}
@@ -20,9 +20,9 @@ use Rattle.link.specs.Pieces.{readerFor, readerAfter}
 use Rattle.link.proofs.feed.Statement.{statement}
 use Rattle.link.proofs.feed.Tie as tie
 
--- ---- one call
+-- ---- One call
 
--- the reader that the calls after one lead to, by the bytes that it left
+-- The reader after a call and the calls that follow it: s is the step of the call, and `rest` the bytes that it did not take.
 abbrev onward : ℕ → Step → List ℕ → Reader
 onward calls s rest = cond (eqb (length rest) 0) (s .next) (readerFor (calls - 1) (s .next) rest)
 
@@ -61,7 +61,7 @@ unfolding readerFor
 no-calls zero none r rest = refl
 no-calls (suc calls) none r rest = absurd (omega arith)
 
--- ---- the loop
+-- ---- The loop
 
 abbrev Inv-loop : tie.InvT-loop
 Inv-loop piece fed₀ at₀ calls₀ fed at calls =
@@ -73,7 +73,7 @@ abbrev μ-loop : tie.MeasureT-loop
 loop-holds : tie.Need-loop-holds Inv-loop μ-loop
 loop-holds c = (omega arith, λ more. started (c .before .args .reader) (c .before .args .piece .now))
 
--- no more is taken than is left
+-- A call takes no more bytes than are left.
 within : (c : tie.After-struct-known Inv-loop μ-loop) →
     let round = c .before .before .before .before .before .before .before in
     round .loop .at + c .before .before .read .result .taken ≤ length (round .before .before .args .piece .now)

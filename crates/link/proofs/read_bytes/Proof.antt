@@ -1,4 +1,4 @@
--- `read_bytes` is safe: what was read lies within the part that was lent, and so within the buffer.
+-- `read_bytes` is safe: the bytes that were read are within the lent part of the buffer, and so within the buffer.
 use mathlib.Core.Path.{sym, subst}
 use mathlib.Core.List.{_++_}
 use Prim.Native.Nat.{_≤_}
@@ -10,7 +10,7 @@ use borrow.Author.Needs.{needs}
 use Rattle.link.proofs.read_bytes.Statement.{statement}
 use Rattle.link.proofs.read_bytes.Tie as tie
 
--- what was read lies within the part, and so within the buffer
+-- The bytes that were read are within the lent part of the buffer, and so within the buffer.
 in-buffer : (c : tie.After-n) →
     let f = c .before .before .before .before in
     let a = f .before .before .before .args in
