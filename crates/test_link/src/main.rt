@@ -1,7 +1,9 @@
-// Feeds a reader with the pieces of the independent program and writes what came of each call. Commands are read from standard
-// input, each a u16: up to 4,096 a piece of so many bytes; FFFF the end of a stream: the state is written, and the reader is
-// reset. Of each call a letter and the bytes taken are written: Q a question, with its bytes, N nothing yet, R a refused length,
-// B that a reset is needed; of the state K, how many bytes are kept, these, and ! where a reset is needed.
+// Feeds a reader with pieces that the independent program made, and writes the result of each call. Standard input holds commands, each
+// of which begins with a u16. A number up to 4,096 is the size of a piece, whose bytes follow. FFFF is the end of a stream: the program
+// writes the state and resets the reader.
+// For each call the program writes a letter and the number of bytes taken: Q is a question, and its bytes follow; N is nothing yet; R is
+// a refused length; B means that the reader needs a reset. For the state it writes K, the number of bytes kept, these bytes, and ! if the
+// reader needs a reset.
 ghost use mathlib.Core.Path.{_≡_};
 ghost use Prim.Native.Nat.{_≤_};
 ghost use lib.ListN.{length};
@@ -16,10 +18,10 @@ use little_endian::u16_at;
 use little_endian::word_at;
 use records::QUESTION_ROOM;
 
-// The longest piece.
+// The size of the longest piece.
 const LONGEST: usize = 4096;
 
-// The reader after a command, and whether another may follow.
+// The reader after a command, and whether another command may follow.
 struct Ran {
     reader: Reader,
     more: bool,
@@ -76,7 +78,7 @@ fn at_most(n: usize, limit: usize) -> usize
     if n < limit { n } else { limit }
 }
 
-// Hands in a piece, and again what was not taken of it, until nothing is left or a reset is needed.
+// Passes in a piece, and passes in again the bytes that a call did not take, until none are left or a reset is needed.
 fn feed(reader: Reader, piece: &[u8]) -> Reader {
     let mut now = reader;
     let mut at = 0;
@@ -93,7 +95,7 @@ fn feed(reader: Reader, piece: &[u8]) -> Reader {
     now
 }
 
-// Writes what came of a call, and answers whether the rest is to be handed in.
+// Writes the result of a call, and returns whether to pass in the rest of the piece.
 fn print_step(step: Step) -> bool
     requires { ⌜ sizeGiven (step .came) ≤ questionRoom ⌝ }
 {
@@ -134,7 +136,7 @@ fn print_state(reader: Reader) {
     io::write_all(STDOUT_FILENO, b"\n");
 }
 
-// The first n bytes as hexadecimal numbers of eight bytes each, with zeros after the last.
+// Writes the first n bytes as hexadecimal numbers of eight bytes each. Missing bytes of the last number count as zeros.
 fn print_first(s: &[u8], n: usize)
     requires { ⌜ n ≤ length (now s) ⌝ }
 {

@@ -1,4 +1,4 @@
--- `feed` is safe and ends. The loop's invariant: no more bytes are taken than the piece has. The measure is how many calls are left.
+-- `feed` is safe and ends. The loop invariant: no more bytes were taken than the piece has. The measure is the number of calls left.
 use Prim.Native.Nat.{_+_, _≤_}
 use native.Mathlib.Omega.{arith}
 use borrow.Author.Needs.{needs}
@@ -13,7 +13,7 @@ Inv-loop piece now₀ at₀ calls₀ now at calls = at ≤ length piece
 abbrev μ-loop : tie.MeasureT-loop
 μ-loop piece now₀ at₀ calls₀ now at calls = calls
 
--- no more is taken than is left
+-- A call takes no more bytes than are left.
 within : (c : tie.After-struct-known Inv-loop μ-loop) →
     let round = c .before .before .before .before in
     round .loop .at + c .before .read .result .taken ≤ length (round .before .before .args .piece .now)

@@ -1,4 +1,4 @@
--- `print_first` is safe: the part is as long as it says.
+-- `print_first` is safe: the slice of the first n bytes has n bytes, by the precondition.
 use mathlib.Core.Path.{sym}
 use lib.Seq.{length-take-le}
 use borrow.Author.Needs.{needs}

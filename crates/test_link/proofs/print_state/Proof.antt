@@ -1,4 +1,4 @@
--- `print_state` is safe: no more bytes are printed than there is room for.
+-- `print_state` is safe: it prints no more bytes than the reader has room for.
 use mathlib.Core.Path.{_≡_}
 use native.Mathlib.Omega.{arith}
 use lib.ListN.{length}

@@ -1,4 +1,4 @@
--- `print_step` is safe: a finished question fits its room.
+-- `print_step` is safe: a finished question fits its buffer.
 use mathlib.Core.Path.{_≡_, subst}
 use Prim.Native.Nat.{_≤_}
 use native.Mathlib.Omega.{arith}

@@ -1,4 +1,4 @@
--- `print_words` is safe and ends. Nothing has to hold from turn to turn; the measure is how many bytes are left.
+-- `print_words` is safe and ends. The loop needs no invariant, and the measure is the number of bytes left.
 use Prim.Native.Nat.{_-_}
 use borrow.Author.Needs.{needs}
 use lib.ListN.{length}

@@ -1,4 +1,4 @@
--- `read_and_feed` is safe: the part lies within the buffer, which keeps its size.
+-- `read_and_feed` is safe: the part that is read is within the buffer, which keeps its size.
 use mathlib.Core.Path.{sym}
 use mathlib.Core.List.{_++_}
 use native.Mathlib.Omega.{arith}
