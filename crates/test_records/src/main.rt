@@ -1,6 +1,6 @@
-// Reads records from standard input, one after another by their lengths, takes each apart into its struct and writes it from the
-// struct to standard output: a question, an answer with its entries, or a refusal. A record of any other kind is left out. The
-// program stops at the input's end, at a record that this end cuts short, and at a length above that of the longest answer.
+// Reads records from standard input, one after another by their lengths, reads each into its struct and writes it from the struct to
+// standard output: a question, an answer with its entries, or a refusal. It leaves out a record of any other kind. The program stops at
+// the end of the input, at a record that this end cuts short, and at a length above that of the longest answer.
 ghost use mathlib.Core.Path.{_≡_};
 ghost use Prim.Native.Nat.{_≤_};
 ghost use lib.ListN.{length};
@@ -16,7 +16,7 @@ use records::QUESTION_KIND;
 use records::QUESTION_SIZE;
 use records::REFUSAL_KIND;
 
-// A proved loop has to end, and nothing says that the input does: the count is one that no input reaches.
+// The prover requires a bound on the loop. The input has none, so the bound is a count that no input reaches.
 fn main() {
     let mut bytes = [0u8; ANSWER_ROOM];
     let mut rounds_left = u64::MAX;
@@ -25,7 +25,7 @@ fn main() {
     }
 }
 
-// Reads a record into a buffer, its length and then the rest, and writes it again. Answers whether another may follow.
+// Reads a record into the buffer, first its length and then the rest, and writes it out. Returns whether another record may follow.
 fn copy_record(bytes: &mut [u8]) -> bool
     requires { ⌜ length (now bytes) ≡ answerRoom ⌝ }
 {
@@ -39,7 +39,7 @@ fn copy_record(bytes: &mut [u8]) -> bool
     copy_rest(bytes, size)
 }
 
-// The same for a record of which the length is there.
+// Does the same for a record whose length is in the buffer already.
 fn copy_rest(bytes: &mut [u8], size: usize) -> bool
     requires room { ⌜ length (now bytes) ≡ answerRoom ⌝ }
     requires above { ⌜ LENGTH .width ≤ size ⌝ }
@@ -69,7 +69,7 @@ fn write_question(bytes: &[u8]) {
     io::write_all(STDOUT_FILENO, &out);
 }
 
-// The head, and each entry that it counts and the record has.
+// Writes the head, and each entry that the head counts and the record contains.
 fn write_answer(bytes: &[u8]) {
     let head = records::read_head(bytes);
     let mut out = [0u8; HEAD_SIZE];

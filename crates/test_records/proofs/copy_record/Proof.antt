@@ -1,4 +1,4 @@
--- `copy_record` is safe: the buffer keeps its size, and a record's rest is read only where it fits.
+-- `copy_record` is safe: the buffer keeps its size, and the rest of a record is read only if it fits.
 use mathlib.Core.Path.{_≡_, sym, _∙_}
 use native.Mathlib.Omega.{arith}
 use borrow.Author.Needs.{needs}

@@ -1,4 +1,4 @@
--- `copy_rest` is safe: the buffer keeps its size, and the record lies within it.
+-- `copy_rest` is safe: the buffer keeps its size, and the record is within it.
 use mathlib.Core.Path.{_≡_, sym, _∙_}
 use Prim.Native.Nat.{_-_}
 use native.Mathlib.Omega.{arith}

@@ -1,4 +1,4 @@
--- `main` ends: the buffer keeps its size, and the measure is how many rounds are left.
+-- `main` ends. The invariant: the buffer keeps its size. The measure is the number of rounds left.
 use mathlib.Core.Path.{_≡_}
 use borrow.Author.Needs.{needs}
 use lib.ListN.{length}

@@ -1,5 +1,5 @@
--- `write_answer` is safe and ends: an entry is read where the bytes have room up to its end. Nothing has to hold from round to round,
--- and the measure is how many entries are left.
+-- `write_answer` is safe and ends: an entry is read only if the bytes reach to its end. The loop needs no invariant, and the measure is
+-- the number of entries left.
 use mathlib.Core.Path.{_≡_}
 use Prim.Native.Nat.{_+_, _-_, _≤_}
 use native.Mathlib.Omega.{arith}
@@ -16,7 +16,7 @@ Inv-loop bytes head i₀ i = Unit {0}
 abbrev μ-loop : tie.MeasureT-loop
 μ-loop bytes head i₀ i = head .number - i
 
--- an entry starts within the bytes: the next one would start there too, or where they end
+-- An entry starts within the bytes, because it ends within them.
 in-bytes : (c : tie.After-answer-size2 Inv-loop μ-loop) →
     let round = c .before .before .before .before .before in
     let start = round .before .before .before .before .before .before .before .before in
