@@ -1,6 +1,5 @@
-// Reads frames of 124 bytes, each with a question, and writes a line for each: the number of its
-// refusal, or 0 and the problem's 22 words. What the independent program makes of the same frames
-// is the expected output.
+// Reads frames of 124 bytes, each with a question, and writes a line for each: the number of its refusal, or 0 and the 22 words of the
+// problem. The expected output is that of the independent program for the same frames.
 ghost use Prim.Native.Nat.{_<_, _≤_};
 use entrance::Judged;
 use entrance::Problem;
@@ -10,8 +9,7 @@ use geometry::Triangle;
 use libc::STDIN_FILENO;
 use libc::STDOUT_FILENO;
 
-// The bytes of a frame: the question's size and the answer buffer's, two each, and 120 for the
-// question.
+// The size of a frame: two bytes for the question's size, two for the answer buffer's size, and 120 for the question.
 const FRAME_SIZE: usize = 124;
 
 fn print_word(word: u64) {
@@ -61,7 +59,7 @@ fn print_problem(p: Problem) {
     print_float(p.wanted);
 }
 
-// Writes the line, and answers whether its end was taken.
+// Writes the line, and returns whether the end of it was written.
 fn print_judged(judged: Judged) -> bool {
     match judged {
         Judged::Refused(number) => {
@@ -75,14 +73,14 @@ fn print_judged(judged: Judged) -> bool {
     io::write_all(STDOUT_FILENO, b"\n")
 }
 
-// The number that two bytes stand for, the lower one first.
+// Returns the number in two bytes, the lower one first.
 fn number(low: u8, high: u8) -> usize
     ensures { λ r. ⌜ r < 65536 ⌝ }
 {
     low as usize + high as usize * 256
 }
 
-// Where a question of some size ends in its frame. A size above 120 counts as 120.
+// Returns where a question of the given size ends in its frame. A size above 120 counts as 120.
 fn question_end(size: usize) -> usize
     ensures least { λ r. ⌜ 4 ≤ r ⌝ }
     ensures most { λ r. ⌜ r ≤ 124 ⌝ }
@@ -101,7 +99,7 @@ fn judge_frame(frame: &[u8; FRAME_SIZE]) -> Judged {
     entrance::judge(&bytes[4..end], room)
 }
 
-// Takes one frame, and answers whether it was whole and its line was written.
+// Reads one frame and writes its line. Returns whether the frame was whole and the end of the line was written.
 fn answer_one() -> bool {
     let mut frame = [0u8; FRAME_SIZE];
     if io::read_full(STDIN_FILENO, &mut frame) < FRAME_SIZE {
@@ -110,7 +108,7 @@ fn answer_one() -> bool {
     print_judged(judge_frame(&frame))
 }
 
-// A proved loop has to end, and nothing says that the input does: the count is one that no input reaches.
+// The prover requires a bound on the loop. The input has none, so the bound is a count that no input reaches.
 fn main() {
     let mut rounds_left = u64::MAX;
     while rounds_left > 0 && answer_one() {

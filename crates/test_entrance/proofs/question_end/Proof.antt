@@ -1,4 +1,4 @@
--- `question_end` answers a place in the frame, behind its first four bytes. On each side of the test this is arithmetic.
+-- `question_end` meets its contract: it returns an index in the frame, after the first four bytes. In both branches this is arithmetic.
 use native.Mathlib.Omega.{arith}
 use Rattle.test_entrance.proofs.question_end.Statement.{statement}
 use Rattle.test_entrance.proofs.question_end.Tie as tie
