@@ -1,6 +1,6 @@
-// Reads frames of 24 bytes, each a sweep: the bits of lambda, the bits of the wanted time and the whole
-// revolutions. Writes a line for each: the count of the crossings, how the walk ended, and the ends and
-// halvings of each bracket. What the independent program makes of the same frames is the expected output.
+// Reads frames of 24 bytes, each with a search: the bits of lambda, the bits of the wanted time and the whole revolutions. Writes a line
+// for each: the count of the crossings, how the walk ended, and the ends and halvings of each bracket. The expected output is that of the
+// independent program for the same frames.
 ghost use mathlib.Core.Path.{_≡_};
 ghost use Rattle.little_endian.specs.Bytes.{numberAt};
 use libc::STDIN_FILENO;
@@ -48,7 +48,7 @@ fn print_bracket(bracket: Bracket) {
     io::print_decimal(STDOUT_FILENO, bracket.halvings as u64);
 }
 
-// The used places, of which there are no more than eight.
+// Writes the first `count` brackets of the list, at most eight.
 fn print_list(list: [Bracket; 8], count: usize) {
     let mut i: usize = 0;
     while i < 8 && i < count {
@@ -57,7 +57,7 @@ fn print_list(list: [Bracket; 8], count: usize) {
     }
 }
 
-// Takes one frame, and answers whether it was whole and its line was written.
+// Reads one frame and writes its line. Returns whether the frame was whole and the end of the line was written.
 fn answer_one() -> bool {
     let mut frame = [0u8; 24];
     if io::read_full(STDIN_FILENO, &mut frame) < 24 {
@@ -72,7 +72,7 @@ fn answer_one() -> bool {
     io::write_all(STDOUT_FILENO, b"\n")
 }
 
-// A proved loop has to end, and nothing says that the input does: the count is one that no input reaches.
+// The prover requires a bound on the loop. The input has none, so the bound is a count that no input reaches.
 fn main() {
     let mut rounds_left = u64::MAX;
     while rounds_left > 0 && answer_one() {

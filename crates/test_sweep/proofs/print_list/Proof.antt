@@ -1,4 +1,4 @@
--- `print_list` is safe and ends: i stays within the eight places, and the measure is the number of places that are left.
+-- `print_list` is safe and ends. The invariant: i is at most 8. The measure is the number of list elements left.
 use Prim.Native.Nat.{_≤_, _-_}
 use borrow.Author.Needs.{needs}
 use Rattle.test_sweep.proofs.print_list.Statement.{statement}
