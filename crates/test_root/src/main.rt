@@ -1,10 +1,10 @@
-// Reads operands, each a line of 16 hexadecimal digits, and writes the bits of each root likewise:
-// what the independent program makes of the same operands is the expected output.
+// Reads operands, each a line of 16 hexadecimal digits, and writes the bits of each square root in the same form. The expected output is
+// that of the independent program for the same operands.
 ghost use Prim.Native.Nat.{_<_};
 use libc::STDIN_FILENO;
 use libc::STDOUT_FILENO;
 
-// The value of a hexadecimal digit, in either case of its letters.
+// Returns the value of a hexadecimal digit, in upper or lower case.
 fn digit(c: u8) -> u64
     ensures { λ r. ⌜ r < 16 ⌝ }
 {
@@ -19,7 +19,7 @@ fn operand(line: &[u8; 17]) -> u64 {
     value
 }
 
-// Takes one line, and answers whether it was whole.
+// Reads one line and writes its root. Returns whether the line was whole and the end of the root's line was written.
 fn answer_one() -> bool {
     let mut line = [0u8; 17];
     if io::read_full(STDIN_FILENO, &mut line) < 17 {
@@ -29,7 +29,7 @@ fn answer_one() -> bool {
     io::write_all(STDOUT_FILENO, b"\n")
 }
 
-// A proved loop has to end, and nothing says that the input does: the count is one that no input reaches.
+// The prover requires a bound on the loop. The input has none, so the bound is a count that no input reaches.
 fn main() {
     let mut rounds_left = u64::MAX;
     while rounds_left > 0 && answer_one() {

@@ -1,4 +1,4 @@
--- `digit` meets its contract: a remainder by 16 is below 16.
+-- `digit` meets its contract: a remainder after division by 16 is below 16.
 use borrow.Author.Needs.{needs}
 use Rattle.test_root.proofs.digit.Statement.{statement}
 use Rattle.test_root.proofs.digit.Tie as tie

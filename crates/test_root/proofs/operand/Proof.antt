@@ -1,4 +1,4 @@
--- `operand` is safe and ends. The invariant keeps the index within the line; the measure is what is left of the digits.
+-- `operand` is safe and ends. The invariant: the index is at most 16. The measure is the number of digits left.
 use Prim.Native.Nat.{_-_, _≤_}
 use borrow.Author.Needs.{needs}
 use Rattle.test_root.proofs.operand.Statement.{statement}
