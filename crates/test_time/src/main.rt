@@ -1,6 +1,5 @@
-// Reads frames of 18 bytes, each a place: the bits of lambda, k and the whole revolutions. Writes a
-// line for each, the bits of its time or `void`. What the independent program makes of the same
-// frames is the expected output.
+// Reads frames of 18 bytes, each with a place: the bits of lambda, k and the whole revolutions. Writes a line for each: the bits of its
+// time, or `void`. The expected output is that of the independent program for the same frames.
 ghost use mathlib.Core.Path.{_≡_};
 ghost use Rattle.little_endian.specs.Bytes.{numberAt};
 use flight_time::Place;
@@ -13,7 +12,7 @@ fn k_bits(frame: &[u8]) -> u64
     little_endian::word_at(frame, 8)
 }
 
-// The last two bytes: those past the frame's end count as 0.
+// Returns the whole revolutions in the last two bytes. Bytes past the end of the frame count as 0.
 fn revolutions_of(frame: &[u8]) -> u16 {
     (little_endian::word_at(frame, 16) % 65536) as u16
 }
@@ -24,7 +23,7 @@ fn place_of(frame: &[u8]) -> Place {
     flight_time::time_at(triangle, k, revolutions_of(frame))
 }
 
-// Takes one frame, and answers whether it was whole and its line was written.
+// Reads one frame and writes its line. Returns whether the frame was whole and the end of the line was written.
 fn answer_one() -> bool {
     let mut frame = [0u8; 18];
     if io::read_full(STDIN_FILENO, &mut frame) < 18 {
@@ -41,7 +40,7 @@ fn answer_one() -> bool {
     io::write_all(STDOUT_FILENO, b"\n")
 }
 
-// A proved loop has to end, and nothing says that the input does: the count is one that no input reaches.
+// The prover requires a bound on the loop. The input has none, so the bound is a count that no input reaches.
 fn main() {
     let mut rounds_left = u64::MAX;
     while rounds_left > 0 && answer_one() {
