@@ -1,5 +1,5 @@
-// Reads frames of 144 bytes, each a flight: 17 floats and the place k. Writes a line for each, the
-// bits of v1 and v2. What the independent program makes of the same frames is the expected output.
+// Reads frames of 144 bytes, each with a flight: 17 floats and the place k. Writes a line for each: the bits of v1 and v2. The expected
+// output is that of the independent program for the same frames.
 ghost use Prim.Native.Nat.{_≤_};
 use float64::Vector;
 use geometry::Frame;
@@ -65,7 +65,7 @@ fn print_vector(v: Vector) {
     print_number(v.z);
 }
 
-// Takes one frame, and answers whether it was whole and its line was written.
+// Reads one frame and writes its line. Returns whether the frame was whole and the end of the line was written.
 fn answer_one() -> bool {
     let mut frame = [0u8; 144];
     if io::read_full(STDIN_FILENO, &mut frame) < 144 {
@@ -80,7 +80,7 @@ fn answer_one() -> bool {
     io::write_all(STDOUT_FILENO, b"\n")
 }
 
-// A proved loop has to end, and nothing says that the input does: the count is one that no input reaches.
+// The prover requires a bound on the loop. The input has none, so the bound is a count that no input reaches.
 fn main() {
     let mut rounds_left = u64::MAX;
     while rounds_left > 0 && answer_one() {
