@@ -1,5 +1,5 @@
--- The cases of `square_root`: a zero, a positive number, and what is refused. A positive number's bits lie above zero's
--- and below infinity's (`positive-bits`).
+-- The cases of `square_root`: a zero (`of-zero`), a positive finite number (`of-positive`), and all others, which are refused
+-- (`of-refused`). The bits of a positive finite number are above those of +0 and below those of +infinity (`positive-bits`).
 use mathlib.Core.Path.{_≡_, refl, sym, ap, _∙_, subst}
 use Prim.Native.Nat.{ℕ, zero, suc, _+_, _*_, _/_, _%_, _^_, _≤_, _<_}
 use native.Mathlib.Nat.{lt-of-not-le}
@@ -26,7 +26,7 @@ of-zero (inf s) e = absurd (false≢true e)
 of-zero (fin s zero d) e = refl
 of-zero (fin s (suc m) d) e = absurd (false≢true (sym (some-not-zero s m d) ∙ e))
 
--- ---- what is refused
+-- ---- refused values
 pub of-refused : (x : Float) → (x ≈ 0F) ≡ false → (0F ≺ x) && finiteOf x ≡ false → Refused ≡ rootOf x
 unfolding rootOf finiteOf
 of-refused nan e l = refl
@@ -35,7 +35,7 @@ of-refused (fin s zero d) e l = absurd (true≢false (sym (zero-is-zero s d) ∙
 of-refused (fin true (suc m) d) e l = refl
 of-refused (fin false (suc m) d) e l = absurd (true≢false (sym (ap (λ (b : Bool). b && true) (some-above false m d)) ∙ l))
 
--- ---- a positive number
+-- ---- a positive finite number
 abbrev pub Positive : Float → Type 0
 Positive x = (0F ≺ x) && finiteOf x ≡ true
 
@@ -59,7 +59,7 @@ unfolding finiteOf lt ofBits
 not-zeros b (inl e) l = false≢true (subst (λ (y : ℕ). Positive (ofBits binary64 y)) e l)
 not-zeros b (inr e) l = false≢true (subst (λ (y : ℕ). Positive (ofBits binary64 y)) e l)
 
--- its bits: from infinity's up every pattern but that of -0 is refused
+-- The bits of a positive number. From infinity's pattern up, every pattern is refused except that of -0.
 at-ones : (s : Bool) (t : ℕ) → rootOf (ofFields binary64 s 2047 t) ≡ Refused
 unfolding rootOf ofFields
 at-ones s t = by (eqb t 0)

@@ -1,13 +1,13 @@
-// The bit patterns of f64 that the code speaks of.
+// The bit patterns of f64 that the code names.
 
-// The bits of +infinity: a pattern above them, the sign left out, is a NaN's.
+// The bit pattern of +infinity. A pattern that is above it once the sign bit is cleared is a NaN.
 pub(crate) const INFINITY: u64 = 0x7FF0_0000_0000_0000;
 
-// The bits that a NaN is written as.
+// The bit pattern that `to_bits` returns for a NaN.
 pub(crate) const NAN: u64 = 0x7FF8_0000_0000_0000;
 
-// The sign's bit.
+// The sign bit.
 pub(crate) const SIGN: u64 = 0x8000_0000_0000_0000;
 
-// 2^52: the exponent's field counts these, and a normal number's significand begins with one.
+// 2^52: one step of the exponent field, and the leading digit of a normal number's significand.
 pub(crate) const LEADING_DIGIT: u64 = 0x0010_0000_0000_0000;

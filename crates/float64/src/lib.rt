@@ -1,5 +1,5 @@
-// What every later layer needs of f64, once: the square root (01, Root), the magnitude, the finite
-// test, and the 64 bits of a number both ways. Each function takes any f64 or any bits.
+// The operations on f64 that the later layers share: the square root (01, Root), the magnitude, the test for finite numbers,
+// and the conversions between an f64 and its 64 bits. Each function accepts any f64 or any 64 bits.
 ghost use mathlib.Core.Path.{_≡_};
 ghost use Prim.Native.Nat.{_<_};
 ghost use Rattle.float64.specs.Root.{rootOf, rootOfUnits};
@@ -18,20 +18,21 @@ pub use value::is_finite;
 pub use value::magnitude;
 pub use value::to_bits;
 
-// Three components: a position in km, a velocity in km/s, or a direction.
+// A vector of three components. It represents a position in km, a velocity in km/s, or a direction.
 pub struct Vector {
     pub x: f64,
     pub y: f64,
     pub z: f64,
 }
 
-// A square root, or, of a negative number, an infinity or a NaN, none.
+// The result of a square root. It is `Refused` for a number below zero, an infinity or a NaN.
 pub enum Root {
     Value(f64),
     Refused,
 }
 
-// The f64 nearest to the root of x, worked out in whole numbers. Of a zero, that zero.
+// Returns the f64 nearest to the square root of x, computed in whole numbers. The root of a zero is that same zero, with its
+// sign. A number below zero, an infinity and a NaN are refused.
 pub fn square_root(x: f64) -> Root
     ensures { λ r. ⌜ r ≡ rootOf x ⌝ }
 {
@@ -45,8 +46,8 @@ pub fn square_root(x: f64) -> Root
     }
 }
 
-// The root of the positive f64 with the bit pattern b: 54 binary digits, rounded to 53, the last of
-// which counts 2^(k + 484) units of 2^-1074. The leading digit adds one to the exponent's field.
+// Returns the square root of the positive finite f64 with the bit pattern b. The 54 binary digits of the root are rounded to
+// 53, and the last of these counts 2^(k + 484) units of 2^-1074. The leading digit adds one to the exponent field.
 fn positive_root(b: u64) -> f64
     requires { ⌜ (0 < b) × (b < infinityBits) ⌝ }
     ensures { λ r. ⌜ r ≡ rootOfUnits (unitsOfBits b) ⌝ }

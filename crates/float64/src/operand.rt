@@ -1,16 +1,16 @@
-// From the bit pattern of a positive f64 to the whole number whose root is taken.
+// From the bit pattern of a positive f64 to the whole number whose root is computed.
 ghost use Prim.Native.Nat.{ℕ, _≤_, _<_, _^_};
 ghost use Rattle.float64.specs.Internals.{infinityBits, unitsOfBits, Normalised, Scaled};
 use crate::bit_patterns::LEADING_DIGIT;
 
-// The number a * 2^54 whose root is taken, and k, the power of two that the root has then lost.
+// The number a * 2^54 whose root is computed, and k, the exponent of the power of two that this root then lacks.
 pub(crate) struct Operand {
     pub(crate) a: u64,
     pub(crate) k: u64,
 }
 
-// The positive f64 with the bit pattern b, counted in units of the least f64, 2^-1074. A pattern
-// with the exponent's field 0 is subnormal: its digits are the count itself.
+// Returns the operand for the positive finite f64 with the bit pattern b, counted in units of 2^-1074, the least f64 above
+// zero. A pattern with the exponent field 0 is subnormal: its digits are already the number of units.
 pub(crate) fn operand_of(b: u64) -> Operand
     requires { ⌜ (0 < b) × (b < infinityBits) ⌝ }
     ensures scaled { λ r. ⌜ Scaled (unitsOfBits b) (r .a) (r .k) ⌝ }
@@ -26,8 +26,8 @@ pub(crate) fn operand_of(b: u64) -> Operand
     }
 }
 
-// Of a number its 53 first binary digits and its length in digits. One of even length takes one
-// digit more, so that what is left out is a power of four.
+// Returns the operand for a number, given its first 53 binary digits and its length in binary digits. If the length is even,
+// `a` gets one digit more, so that the factor left out is a power of four.
 fn scaled(digits: u64, length: u64) -> Operand
     requires { ⌜ (digits < 2 ^ 53) × (length ≤ 2098) ⌝ }
     ensures scaled { λ r. ⌜ ((n : ℕ) → Normalised n digits length → Scaled n (r .a) (r .k)) ⌝ }

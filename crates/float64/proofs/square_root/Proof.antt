@@ -1,4 +1,4 @@
--- `square_root` meets its contract: each return is a case of `proofs/Cases.antt`.
+-- `square_root` meets its contract: each return is one case of `proofs/Cases.antt`.
 use borrow.Author.Needs.{needs}
 use mathlib.Core.Path.{_≡_, sym, subst, ap, _∙_}
 use mathlib.Core.Bool.{Bool, _&&_}
@@ -10,7 +10,7 @@ use Rattle.float64.proofs.Cases.{Positive, no-nan, of-zero, of-refused,
 use Rattle.float64.proofs.square_root.Statement.{statement}
 use Rattle.float64.proofs.square_root.Tie as tie
 
--- what owning an f64 tells: the format holds it
+-- An argument of the type f64 fits the format.
 held : (c : tie.Start) → T (fits binary64 (c .args .x))
 held c = subst T (sym (c .good .0 .1)) tt
 
@@ -20,7 +20,7 @@ returns c = of-zero (c .before .args .x) (c .if1 .taken)
 is-finite-requires : tie.Need-is-finite-requires
 is-finite-requires c κs = search needs
 
--- the second test is the definition's, by what `is_finite` ensures of its answer
+-- By the contract of `is_finite`, the code's second test is the same as the test with `finiteOf`.
 test-is : (c : tie.After-is-finite)
     → (0F ≺ c .before .before .args .x) && finiteOf (c .before .before .args .x) ≡ (0F ≺ c .before .before .args .x) && c .is-finite .result
 test-is c = ap (λ (b : Bool). (0F ≺ c .before .before .args .x) && b) (sym (c .is-finite .ensures))
