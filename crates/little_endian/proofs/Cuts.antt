@@ -1,4 +1,5 @@
--- A list taken and dropped at a count that is cut to its length is as at the count itself.
+-- Shows that taking or dropping n elements of a list gives the same result if n is first
+-- limited to the list's length (`take-cut`, `drop-cut`).
 use Prim.Native.Nat.{ℕ, zero, suc, min}
 use mathlib.Core.Path.{_≡_, ap, _∙_}
 use mathlib.Core.List.{List, [], _∷_}

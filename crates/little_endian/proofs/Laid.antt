@@ -1,5 +1,6 @@
--- Bytes laid over a buffer: where it has room they are its front and the rest stays (`laid`), and without room it stays as it was
--- (`not-laid`). What was laid before and is no longer does not matter (`laid-over`).
+-- Bytes written to the start of a buffer. If there is room, they become the front of the buffer and the rest
+-- is unchanged (`laid`); otherwise the whole buffer is unchanged (`not-laid`). Earlier bytes that are
+-- overwritten completely have no effect (`laid-over`).
 use mathlib.Core.Path.{_≡_, sym, ap, _∙_}
 use mathlib.Core.List.{List, _++_}
 use Prim.Native.Nat.{ℕ, _+_, _-_, _≤_, _<_}

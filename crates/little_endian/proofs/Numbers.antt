@@ -1,4 +1,5 @@
--- Numbers of w bytes: one byte more at the low end (`more`), and how large they get (`within`, `more-lt`, and of any bytes `number-lt`).
+-- Numbers of w bytes: the effect of one more byte at the low end (`more`), and bounds on the number, in the loop of
+-- `number_at` (`within`, `more-lt`) and for any bytes (`number-lt`).
 use mathlib.Core.Path.{_≡_, sym, ap, _∙_, subst}
 use mathlib.Core.List.{List}
 use Prim.Native.Nat.{ℕ, zero, suc, _+_, _-_, _*_, _^_, _≤_, _<_}
@@ -14,7 +15,7 @@ within k v h l = lt-of-lt-of-le l (pow-mono (eight k h))
     eight : (x : ℕ) → x ≤ 7 → 8 * x ≤ 56
     eight x g = omega arith
 
--- with l bytes left of w, one less is left of the next number, which is one byte longer
+-- If l of w bytes are left to read, the number read so far has w - l bytes. With the next byte it has one byte more.
 one-more : (w l : ℕ) → 0 < l → l ≤ w → w - (l - 1) ≡ suc (w - l)
 one-more w l g k = omega arith
 
@@ -30,7 +31,7 @@ more-lt w l v b p q h g =
     fit : (x : ℕ) → v < x → v * 256 + b < x * 2 ^ 8
     fit x f = omega arith
 
--- the loop goes down: with l of the bytes left, it has the number of the others
+-- The loop reads from the highest byte down. With l bytes left, it has the number stored in the other w - l bytes.
 pub more : (s : List ℕ) (at w l v b : ℕ) → 0 < l → l ≤ w → b ≡ getD s (at + (l - 1)) 0 → v ≡ numberAt (w - l) s (at + l) →
     v * 256 + b ≡ numberAt (w - (l - 1)) s (at + (l - 1))
 unfolding numberAt
@@ -44,7 +45,7 @@ more s at w l v b p h e f =
     sum : (x y : ℕ) → x * 256 + y ≡ y + 256 * x
     sum x y = omega arith
 
--- a number of w bytes, read from any place
+-- A number of w bytes is below 2 ^ (8 * w), at any offset.
 pub number-lt : (w at : ℕ) (s : List ℕ) → AreBytes s → numberAt w s at < 2 ^ (8 * w)
 unfolding numberAt
 number-lt zero at s h = omega arith

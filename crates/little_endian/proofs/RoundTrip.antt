@@ -1,4 +1,5 @@
--- What is written is read back, whatever follows it: of a number (`number-back`), and so of a whole table (`table-back`).
+-- Shows that reading returns what was written, whatever is before and after it: for one number that fits its width
+-- (`number-back`), and from that for a whole table of them (`table-back`).
 use mathlib.Core.Path.{_≡_, refl, sym, ap, _∙_}
 use mathlib.Core.List.{List, [], _∷_, _++_, append-assoc}
 use Prim.Native.Nat.{ℕ, zero, suc, _+_, _*_, _/_, _%_, _^_, _<_}
@@ -39,7 +40,7 @@ number-back (suc w) x before after h =
     parts : (z : ℕ) → z % 256 + 256 * (z / 256) ≡ z
     parts z = omega arith
 
--- each number fits its width
+-- Each number fits its width.
 infixr 5 _⟫_
 pub data InRange : List ℕ → List ℕ → Type 0 where
   done : InRange [] []

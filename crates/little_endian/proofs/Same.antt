@@ -1,5 +1,6 @@
--- A number is read from its own bytes alone (`number-same`, by induction on its width), so it is the same in a part, in a rest and before
--- more bytes.
+-- Shows that a number depends only on its own bytes (`number-same`, by induction on its width). So it stays
+-- the same if the bytes after it are removed (`number-take`), if bytes before it are removed
+-- (`number-drop`), and if more bytes follow (`number-front`).
 use mathlib.Core.Path.{_≡_, refl}
 use mathlib.Core.List.{List, _++_}
 use Prim.Native.Nat.{ℕ, zero, suc, _+_, _≤_, _<_}

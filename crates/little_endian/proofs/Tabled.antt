@@ -1,5 +1,5 @@
--- Numbers by a table of widths: how many bytes they take (`packed-length`), where the next one stands (`total-at`), and one more stored
--- (`put-more`).
+-- Numbers stored by a table of widths: how many bytes they take (`packed-length`), how many bytes are left from a field on
+-- (`total-at`), and the effect of storing one more number (`put-more`).
 use mathlib.Core.Path.{_≡_, refl, sym, ap, _∙_}
 use mathlib.Core.List.{List, [], _∷_, _++_}
 use Prim.Native.Nat.{ℕ, zero, suc, _+_, _≤_, _<_, _/_}
@@ -14,7 +14,7 @@ pub total-at : (ws : List ℕ) (i : ℕ) → i < length ws → total (drop i ws)
 unfolding total
 total-at ws i h = ap total (drop-cons ws i 0 h)
 
--- past the last field nothing is left
+-- Past the last field no bytes are left.
 pub total-past : (ws : List ℕ) (i : ℕ) → length ws ≤ i → total (drop i ws) ≡ 0
 unfolding total
 total-past ws i h = ap total (drop-of-length-le ws h)
@@ -34,7 +34,7 @@ packed-length (w ∷ ws) (v ∷ vs) h = length-append (bytesOf w v) (packed ws v
     sum : (a b : ℕ) {n : ℕ} → a ≡ w → b ≡ n → a + b ≡ w + n
     sum a b e f = omega arith
 
--- a run of stores after another is one run
+-- Two runs of stores, the second one right after the first, are one run.
 pub run : (xs ys s : List ℕ) (at : ℕ) → sets (sets s at xs) (at + length xs) ys ≡ sets s at (xs ++ ys)
 run [] ys s at = simp add-zero
 run (x ∷ xs) ys s at =

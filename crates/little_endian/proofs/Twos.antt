@@ -1,5 +1,5 @@
--- Two's complement at 64 bits: a negative k is, inverted, -(k + 1), which is not negative; and its bits are a word (`signed-lt`), read as
--- the number itself (`signed-back`).
+-- Two's complement at 64 bits. Inverting the bits of a negative k gives -(k + 1), which is not negative (`inverted`). The
+-- bits of a signed number fit in a word (`signed-lt`), and reading them returns the number (`signed-back`).
 use Prim.Native.Nat.{ℕ, _-_, _<_, _≤_, _^_, suc}
 use mathlib.Core.Path.{_≡_, refl, ap, subst}
 use mathlib.Core.Bool.{Bool, true, false, cond}
@@ -18,7 +18,7 @@ small n m e h = rw (e, lt-ltb m (2 ^ 63) h) refl
 never : (n : ℕ) → ltb n 0 ≡ true → ⊥
 never n e = omega (arith, ltb-true n 0 e)
 
--- below 0
+-- Numbers below 0.
 pub inverted : (k : ℤ) → SFits w64 k → ltZ k (pos 0) ≡ true → toZ w64 (18446744073709551615 - ofZ w64 k) ≡ pos (mag k)
 inverted (pos n) f e = absurd (never n e)
 inverted (negsuc n) f e = small (18446744073709551615 - (2 ^ 64 - suc n)) n (omega (arith, f .sfits)) (f .sfits)
@@ -28,7 +28,7 @@ unfolding signedBits
 bits-below (pos n) e = absurd (never n e)
 bits-below (negsuc n) e = omega arith
 
--- from 0 on
+-- Numbers from 0 up.
 pub from-zero : (k : ℤ) → ltZ k (pos 0) ≡ false → k ≡ pos (signedBits k)
 unfolding signedBits
 from-zero (pos n) e = refl
@@ -38,7 +38,7 @@ pub cast-from-zero : (k : ℤ) → SFits w64 k → ltZ k (pos 0) ≡ false → T
 cast-from-zero (pos n) f e = (tt, record { fits = omega (arith, f .sfits) })
 cast-from-zero (negsuc n) f e = absurd (subst (λ (b : Bool). T b) e tt)
 
--- the code's reading of a word as a signed number
+-- The language's reading of a word as a signed number is `signedOf`.
 pub signed-is : (b : ℕ) → toZ w64 b ≡ signedOf b
 unfolding signedOf
 signed-is b = by (ltb b (2 ^ 63))
@@ -50,7 +50,7 @@ signed-is b = by (ltb b (2 ^ 63))
 pub inverted-twice : (b : ℕ) → b < 2 ^ 64 → 18446744073709551615 - (18446744073709551615 - b) ≡ b
 inverted-twice b h = omega arith
 
--- the bits of a signed number are read as it
+-- Reading the bits of a signed number returns the number.
 pub signed-back : (k : ℤ) → SFits w64 k → signedOf (signedBits k) ≡ k
 unfolding signedOf signedBits
 signed-back (pos n) f = rw (lt-ltb n (2 ^ 63) (f .sfits))

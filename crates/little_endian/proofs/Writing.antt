@@ -1,4 +1,5 @@
--- What a public write does to its buffer: nothing without room (`no-room`), and with room the stores of the bytes (`stored`).
+-- Shows what a public write does to its buffer: nothing if there is no room
+-- (`no-room`), and otherwise it stores the bytes (`stored`).
 use mathlib.Core.Path.{_≡_, sym, ap, _∙_}
 use mathlib.Core.Bool.{Bool, true, false, cond}
 use mathlib.Core.List.{List, _++_}
@@ -11,7 +12,7 @@ use lib.ListN.{length, drop}
 use lib.Seq.{sets, sets-eq}
 use Rattle.little_endian.specs.Bytes.{hasRoom, written}
 
--- what the result and the buffer at exit are, of the buffer at entry and the bytes
+-- The result r and the buffer at exit are those of the definitions, for the given buffer at entry and bytes.
 abbrev pub Wrote : List ℕ → List ℕ → Bool → List ℕ → Type 0
 Wrote buffer bytes r after = (r ≡ hasRoom buffer bytes) × (after ≡ written buffer bytes)
 

@@ -1,5 +1,5 @@
-// Numbers in slices of bytes, little-endian. Reading takes any bytes and any place, a byte past the end counting as 0; writing
-// starts at the buffer's first byte, and where there is no room it changes nothing and says so.
+// Little-endian numbers in slices of bytes. Reading accepts any bytes and any offset, and a byte past the end counts as 0.
+// Writing starts at the first byte of the buffer. If the buffer is too short, it changes nothing and returns false.
 mod bytes;
 mod tables;
 mod typed;

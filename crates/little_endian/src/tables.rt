@@ -1,5 +1,5 @@
-// Numbers one after another from the start of a buffer, by a table of their widths in bytes; a number of the
-// width 0 takes no place.
+// Numbers stored one after another from the start of a buffer. A table gives their widths
+// in bytes, and a number of width 0 takes no bytes.
 ghost use mathlib.Core.Path.{_≡_};
 ghost use Prim.Native.Nat.{_≤_};
 ghost use lib.Dec.{leb};
@@ -9,10 +9,11 @@ ghost use Rattle.little_endian.specs.Bytes.{hasRoom, written};
 ghost use Rattle.little_endian.specs.Tables.{total, packed};
 use crate::bytes::put_number;
 
-// How many places a table has: as many as the longest record can have fields.
+// The number of elements of a table. No record has more fields than this.
 pub const PLACES: usize = 18;
 
-// Stores the lowest bytes of each number, as many as its width, or says that the buffer is too short for them.
+// Stores the lowest bytes of each number, as many as its width, and returns true. If the buffer is too short for
+// all of them, it changes nothing and returns false.
 pub fn put_numbers(out: &mut [u8], widths: [usize; PLACES], values: [u64; PLACES]) -> bool
     ensures room { λ r. ⌜ r ≡ hasRoom (now (out .entry)) (packed widths values) ⌝ }
     ensures bytes { λ _. ⌜ now (out .exit) ≡ written (now (out .entry)) (packed widths values) ⌝ }
@@ -24,7 +25,7 @@ pub fn put_numbers(out: &mut [u8], widths: [usize; PLACES], values: [u64; PLACES
     false
 }
 
-// Whether numbers of these widths need no more than so many bytes.
+// Reports whether numbers of these widths take at most `room` bytes.
 fn fits(widths: [usize; PLACES], room: usize) -> bool
     ensures { λ r. ⌜ r ≡ leb (total widths) room ⌝ }
 {
@@ -41,6 +42,7 @@ fn fits(widths: [usize; PLACES], room: usize) -> bool
     true
 }
 
+// Stores the lowest bytes of each number, as many as its width. The buffer has room for them.
 fn store(out: &mut [u8], widths: [usize; PLACES], values: [u64; PLACES])
     requires { ⌜ total widths ≤ length (now out) ⌝ }
     ensures { λ _. ⌜ now (out .exit) ≡ sets (now (out .entry)) 0 (packed widths values) ⌝ }

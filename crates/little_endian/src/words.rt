@@ -2,12 +2,14 @@
 ghost use mathlib.Core.Path.{_≡_};
 ghost use Rattle.little_endian.specs.Bytes.{signedBits, signedOf};
 
+// Returns the two's complement of k as a word of 64 bits.
 pub fn signed_bits(k: i64) -> u64
     ensures { λ r. ⌜ r ≡ signedBits k ⌝ }
 {
     if k < 0 { !((!k) as u64) } else { k as u64 }
 }
 
+// Returns the signed number that has the two's complement b.
 pub fn signed_of(b: u64) -> i64
     ensures { λ r. ⌜ r ≡ signedOf b ⌝ }
 {

@@ -1,4 +1,4 @@
--- `bytes::byte_at` meets its contract: a byte is below 256, and past the end a list gives 0.
+-- `bytes::byte_at` meets its contract: a byte is below 256, and an element past the end of a list is 0.
 use Prim.Native.Nat.{_+_, _-_, _<_, _≤_}
 use borrow.Author.Needs.{needs}
 use borrow.Author.Tests.{ltb-true, ltb-false}
@@ -9,13 +9,13 @@ use lib.ListN.{length, List·getD-eq-default}
 use Rattle.little_endian.proofs.bytes.byte_at.Statement.{statement}
 use Rattle.little_endian.proofs.bytes.byte_at.Tie as tie
 
--- the byte is within the slice
+-- The offset is inside the slice.
 inside : (c : tie.Then2) → c .before .before .args .at + c .before .before .args .i < length (c .before .before .args .s .now)
 inside c =
     let a = c .before .before .args in
     omega (arith, c .before .if1 .taken, ltb-true (a .i) (length (a .s .now) - a .at) (c .if2 .taken))
 
--- both ways to the else arm are past the end
+-- On both paths to the else branch the offset is past the end.
 past : (c : tie.Joined1) → length (c .before .args .s .now) ≤ c .before .args .at + c .before .args .i
 past c =
     let a = c .before .args in

@@ -1,6 +1,5 @@
--- `bytes::number_at` meets its contract. The loop's invariant: value is the number of the bytes that are passed, the highest ones, and
--- has no more digits than they.
--- The measure is the number of bytes that are left.
+-- `bytes::number_at` meets its contract. The loop invariant is that `value` is the number stored in the bytes read so far,
+-- which are the highest ones, and that it fits in that many bytes. The measure is the number of bytes left.
 use Prim.Native.Nat.{_≤_, _<_, _+_, _-_, _*_, _^_}
 use mathlib.Core.Path.{_≡_, _∙_}
 use native.Mathlib.Nat.{sub-self, sub-zero, add-zero}

@@ -1,6 +1,5 @@
--- `bytes::put_number` meets its contract. The loop's invariant: storing what is left of the number from where the loop stands gives what
--- the function is to store.
--- The measure is the number of bytes that are left.
+-- `bytes::put_number` meets its contract. The loop invariant is that storing the rest of the number from the current offset
+-- on completes what the function has to store. The measure is the number of bytes left.
 use Prim.Native.Nat.{suc, _≤_, _+_, _-_}
 use mathlib.Core.Path.{_≡_, refl}
 use native.Mathlib.Omega.{arith}

@@ -1,6 +1,5 @@
--- `tables::fits` meets its contract. The loop's invariant: the room that is left has to do for the widths that are left, as the whole
--- room has for all.
--- The measure is the number of widths that are left.
+-- `tables::fits` meets its contract. The loop invariant is that the difference between the room left and the sum of the
+-- widths left is the same as that between the whole room and the sum of all widths. The measure is the number of widths left.
 use Prim.Native.Nat.{_≤_, _+_, _-_}
 use mathlib.Core.Path.{_≡_, sym}
 use native.Mathlib.Numerals.{add-one}

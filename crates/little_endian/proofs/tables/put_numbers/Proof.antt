@@ -1,4 +1,4 @@
--- `tables::put_numbers` meets its contract: without room nothing is stored, and with room the stores are the numbers' bytes.
+-- `tables::put_numbers` meets its contract: without room it stores nothing, and with room it stores the numbers' bytes.
 use mathlib.Core.Path.{sym, _∙_}
 use borrow.Author.Needs.{needs}
 use borrow.Author.Tests.{leb-true}

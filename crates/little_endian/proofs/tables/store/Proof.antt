@@ -1,6 +1,5 @@
--- `tables::store` meets its contract. The loop's invariant: storing what the rest of the table gives from where the loop stands gives
--- what the function is to store, and it has room.
--- The measure is the number of fields that are left.
+-- `tables::store` meets its contract. The loop invariant is that the numbers left fit in the buffer, and that storing them
+-- from the current offset on completes what the function has to store. The measure is the number of fields left.
 use Prim.Native.Nat.{_≤_, _+_, _-_}
 use mathlib.Core.Path.{_≡_, refl, _∙_}
 use native.Mathlib.Numerals.{add-one}

@@ -1,4 +1,5 @@
--- `words::signed_bits` meets its contract: a negative number is inverted twice, any other is its own bits.
+-- `words::signed_bits` meets its contract: a negative number is inverted before and after
+-- the cast, and any other number is its own word.
 use mathlib.Core.Path.{_≡_, ap}
 use mathlib.Core.Bool.{true, false}
 use native.Mathlib.Omega.{arith}

@@ -1,4 +1,5 @@
--- `words::signed_of` meets its contract: a word below 2 ^ 63 is its own number, any other is inverted twice.
+-- `words::signed_of` meets its contract: a word below 2 ^ 63 is its own number, and any
+-- other word is inverted before and after the cast.
 use borrow.Author.Needs.{needs}
 use mathlib.Core.Path.{ap, _∙_}
 use mir.Syntax.{w64}
