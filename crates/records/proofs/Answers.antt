@@ -1,5 +1,6 @@
--- An answer as a whole: its size is `answerSize` of the number of its entries (`answer-length`), its head is read back
--- (`answer-head-back`), and the entry of index i stands where an answer with i entries ends (`answer-entry-back`).
+-- Shows three facts about a whole answer. Its size is `answerSize` of the number of its entries (`answer-length`). If the
+-- values fit their fields, reading its head returns the head that was written (`answer-head-back`), and reading at the offset
+-- where an answer with i entries ends returns the entry of index i (`answer-entry-back`).
 use mathlib.Core.Path.{_≡_, refl, sym, ap, _∙_}
 use mathlib.Core.List.{List, [], _∷_, _++_, append-assoc}
 use Prim.Native.Nat.{ℕ, suc, _+_, _*_}
@@ -31,7 +32,7 @@ entries-append (e ∷ xs) ys =
     ap (λ (l : List ℕ). entryBytes e ++ l) (entries-append xs ys)
     ∙ sym (append-assoc (entryBytes e) (entriesBytes xs) (entriesBytes ys))
 
--- the size of a head's bytes and of n entries' bytes after them
+-- The size of a head's bytes followed by the bytes of entries.
 both : (head : List ℕ) (es : List Entry) → length head ≡ headSize → length (head ++ entriesBytes es) ≡ answerSize (length es)
 both head es h =
     length-append head (entriesBytes es) ∙ sum (length head) (length (entriesBytes es)) (length es) h (entries-length es)

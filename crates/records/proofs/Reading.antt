@@ -1,6 +1,7 @@
--- What a reader of a record's bytes finds: an entry (`entry-read`) and an answer's head (`answer-head-read`), whatever follows them, and a
--- refusal's head (`refusal-head-read`).
--- The heads of refusals and of answers fit their fields where job and revision do (`refusal-held`, `answer-held`).
+-- Shows what reading the bytes of a record returns if its values fit their fields: an entry (`entry-read`) and an answer's
+-- head (`answer-head-read`), whatever follows them, and a refusal's head (`refusal-head-read`). The values in the head of a
+-- refusal fit their fields if job, revision and number do (`refusal-held`). Those in the head of an answer fit if job and
+-- revision do and the answer has at most `mostEntries` entries (`answer-held`).
 use mathlib.Core.Path.{_≡_, sym, ap, _∙_}
 use mathlib.Core.List.{List, [], _++_, append-assoc, append-nil}
 use Prim.Native.Nat.{ℕ, _^_, _≤_, _<_}
@@ -13,7 +14,7 @@ use Rattle.records.specs.Ranges.{HeadHeld, EntryHeld}
 use Rattle.records.specs.declared.Entry.{Entry}
 use Rattle.records.proofs.RoundTrip.{head-back, entry-back}
 
--- bytes that begin with an entry's are read as that entry
+-- Bytes that begin with the bytes of an entry are read as that entry.
 pub entry-read : (l : List ℕ) (e : Entry) → take entrySize l ≡ entryBytes e → EntryHeld e → entryOf l ≡ e
 entry-read l e t h =
     let parts : l ≡ entryBytes e ++ drop entrySize l =

@@ -1,5 +1,5 @@
--- What is written of a record is read back, whatever follows it (`question-back`, `head-back`, `entry-back`): each is the law over its
--- table, `table-back`.
+-- Shows that reading the bytes of a record returns the record, whatever follows them, if its values fit their fields
+-- (`question-back`, `head-back`, `entry-back`). Each proof applies `table-back` to the record's table.
 use mathlib.Core.Path.{_≡_, ap, _∙_}
 use mathlib.Core.List.{List, [], _∷_, _++_}
 use Prim.Native.Nat.{ℕ, _^_, _<_}
@@ -25,7 +25,7 @@ use Rattle.records.specs.declared.Entry.{Entry}
 float-lt : (x : Float) → T (fits binary64 x) → bitsOf x < 2 ^ 64
 float-lt x h = toBits-lt binary64 x h
 
--- a vector's three fields, before those that follow
+-- The three fields of a vector are in range, together with any fields in range that follow them.
 vector-lt : (v : Vector) {ws vs : List ℕ} → VectorHeld v → InRange ws vs →
     InRange (8 ∷ 8 ∷ 8 ∷ ws) (bitsOf (v .x) ∷ bitsOf (v .y) ∷ bitsOf (v .z) ∷ vs)
 vector-lt v h r = float-lt (v .x) (h .x) ⟫ float-lt (v .y) (h .y) ⟫ float-lt (v .z) (h .z) ⟫ r
@@ -33,7 +33,7 @@ vector-lt v h r = float-lt (v .x) (h .x) ⟫ float-lt (v .y) (h .y) ⟫ float-lt
 vector-back : (v : Vector) → VectorHeld v → record { x = bits (bitsOf (v .x)); y = bits (bitsOf (v .y)); z = bits (bitsOf (v .z)) } ≡ v
 vector-back v h = simp (read-back (v .x) (h .x), read-back (v .y) (h .y), read-back (v .z) (h .z))
 
--- ---- the records, each made of its fields' values
+-- ---- the records, each built from the values of its fields
 questionFrom : List ℕ → Question
 questionFrom v = record {
   length = getD v 0 0;

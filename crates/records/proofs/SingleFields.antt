@@ -1,6 +1,7 @@
--- Single fields of what is written are read back, whatever stands in the other fields: of a head and of whatever begins with
--- one, of a refusal, of an answer, of an entry's chosen end, and of a conflict. Each is the law of one number, `number-back`, with the
--- fields before it and those after it.
+-- Shows that reading a single field of a written record returns its value, if that fits the field and whatever the other
+-- fields hold: for a head and everything that begins with one, a refusal, an answer, the chosen end of an entry, and a
+-- conflict. The size and the kind of a conflict follow by computation. All other proofs apply `number-back` to the field,
+-- with the fields before and after it as the surrounding bytes.
 use mathlib.Core.Path.{_≡_, refl, sym, ap, _∙_}
 use mathlib.Core.List.{List, [], _++_, append-assoc}
 use Prim.Native.Nat.{ℕ, _+_, _^_, _≤_, _<_}
@@ -16,7 +17,7 @@ use Rattle.records.specs.Records.{entryNumbers, entryBytes, conflictByte
 use Rattle.records.specs.declared.Head.{Head}
 use Rattle.records.specs.declared.Entry.{Entry}
 
--- ---- a head, whatever follows it
+-- ---- a head, with any bytes after it
 
 module _ (h : Head) (rest : List ℕ) where
   abbrev from-job : List ℕ
@@ -72,7 +73,7 @@ module _ (job revision : ℕ) (es : List Entry) (few : length es ≤ mostEntries
   unfolding answerBytes answerHeadOf
   answer-number = head-number head-of (entriesBytes es) (omega arith)
 
--- the chosen end of an entry, whatever stands before and after it
+-- The chosen end of an entry, with any bytes before and after the entry.
 pub chosen-back : (before : List ℕ) (e : Entry) (after : List ℕ) → e .chosen < 2 ^ 32 →
     numberAt (CHOSEN .width) (before ++ (entryBytes e ++ after)) (length before + CHOSEN .offset) ≡ e .chosen
 unfolding entryBytes encode entryFields bytesOf

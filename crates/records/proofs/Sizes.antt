@@ -1,5 +1,5 @@
--- The length of each record's bytes. A record of an outcome is at least as long as a conflict, and there is room for it where there is room
--- for the longest answer (`refusal-room`, `answer-room`).
+-- Shows the size of each record's bytes. An outcome is at least as long as a conflict and at most as long as the
+-- longest answer (`refusal-room`, `answer-room`).
 use mathlib.Core.Path.{_≡_}
 use Prim.Native.Nat.{ℕ, _≤_}
 use native.Mathlib.Omega.{arith}
@@ -32,7 +32,7 @@ pub conflict-length : (job revision : ℕ) → length (conflictBytes job revisio
 unfolding conflictBytes encode conflictFields
 conflict-length job revision = simp (length-append, bytes-length)
 
--- ---- sizes beside each other
+-- ---- comparisons of sizes
 
 pub refusal-room : (number : ℕ) → (conflictSize ≤ refusalSize number) × (refusalSize number ≤ answerRoom)
 refusal-room number = (omega arith, omega arith)

@@ -1,5 +1,5 @@
--- The tables of specs/Layout.antt have no gap and no overlap: each field starts where the one before it ends, and the tables end at the
--- records' sizes.
+-- Shows that the tables of specs/Layout.antt have no gap and no overlap: each field starts where the one before it
+-- ends, and each table ends at the size of its record.
 use mathlib.Core.Path.{_≡_, refl}
 use mathlib.Core.Bool.{true}
 use mathlib.Core.List.{[], _∷_}
@@ -23,7 +23,7 @@ pub conflict-tiles : tiles 0 conflictFields conflictSize ≡ true
 unfolding tiles conflictFields
 conflict-tiles = refl
 
--- a question in force is as long as its table, and its length counts what follows it
+-- The only length in force for a question is the size of a question without its length field.
 pub question-lengths : questionLengths ≡ (questionSize - LENGTH .width) ∷ []
 unfolding questionLengths
 question-lengths = refl

@@ -1,4 +1,5 @@
--- The layout's numbers as the code's public constants have them: what those are held to. Definitions only.
+-- The values of the code's public constants according to the layout. The contract of
+-- `public_constants` cites them. Definitions only.
 use Rattle.records.specs.Layout.{LENGTH, questionKind, answerKind, refusalKind, conflictKind, questionSize, questionLength}
 use Rattle.records.specs.Layout.{questionRoom, headSize, entrySize, mostEntries, answerRoom, conflictSize, firstNumber, lastNumber}
 use Rattle.records.specs.declared.Constants.{Constants}

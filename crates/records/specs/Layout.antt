@@ -1,6 +1,8 @@
--- The layout of the question, the answer's head and its entries, the refusal, and the conflict of a board's slot, once (01, Records
--- on the wire; 02, A1): each field's offset and width in bytes, and every size, length and kind by name. Definitions only.
--- The code's tables of widths and its constants are tied to these by its contracts. `tiles` says that a table has no gap and no overlap.
+-- The layout of the question, the answer's head and its entries, the refusal, and the conflict of a board's slot
+-- (01, Records on the wire; 02, A1). This file alone defines the offset and width of each field in bytes, and every
+-- size, length and kind by name. Definitions only.
+-- The contracts of the code tie its tables of widths and its constants to these definitions.
+-- `tiles` says that a table has no gap and no overlap.
 use Prim.Native.Nat.{ℕ, _+_, _-_, _*_}
 use mathlib.Core.Bool.{Bool, _&&_}
 use mathlib.Core.List.{List, [], _∷_, _++_}
@@ -14,7 +16,7 @@ pub record Field : Type 0 where
 abbrev pub field : ℕ → ℕ → Field
 field o w = record { offset = o; width = w }
 
--- what every record begins with: the length, counting what follows it, and the kind; then job and revision
+-- The fields with which every record begins: the length, which counts the bytes after it, the kind, the job and the revision.
 abbrev pub LENGTH : Field
 LENGTH = field 0 4
 
@@ -27,7 +29,8 @@ JOB = field 6 4
 abbrev pub REVISION : Field
 REVISION = field 10 4
 
--- kind 1, a question: whole revolutions M, way (0 short, 1 long), spare, the positions r1 and r2, mu, time
+-- The other fields of a question, kind 1: whole revolutions M, way (0 short,
+-- 1 long), spare, the positions r1 and r2, mu, and time.
 abbrev pub REVOLUTIONS : Field
 REVOLUTIONS = field 14 2
 
@@ -61,11 +64,12 @@ MU = field 66 8
 abbrev pub TIME : Field
 TIME = field 74 8
 
--- kind 2, an answer: the number of its entries; kind 3, a refusal: its own number
+-- The number of entries of an answer, kind 2, or the number of a refusal, kind 3.
 abbrev pub NUMBER : Field
 NUMBER = field 14 2
 
--- an entry of an answer: the bracket's lower end, the halvings, the chosen end (0 lower, 1 upper), the velocities v1 and v2
+-- The fields of an entry of an answer: the lower end of the bracket, the halvings, the chosen end
+-- (0 lower, 1 upper), and the velocities v1 and v2.
 abbrev pub LOWER : Field
 LOWER = field 0 8
 
@@ -93,7 +97,7 @@ V2Y = field 48 8
 abbrev pub V2Z : Field
 V2Z = field 56 8
 
--- the tables: the fields of each record in their order
+-- The tables: the fields of each record in their order.
 unfoldable pub questionFields : List Field
 questionFields =
     LENGTH ∷ KIND ∷ JOB ∷ REVISION ∷ REVOLUTIONS ∷ WAY ∷ SPARE ∷ R1X ∷ R1Y ∷ R1Z ∷ R2X ∷ R2Y ∷ R2Z ∷ MU ∷ TIME ∷ []
@@ -107,7 +111,7 @@ entryFields = LOWER ∷ HALVINGS ∷ CHOSEN ∷ V1X ∷ V1Y ∷ V1Z ∷ V2X ∷ 
 unfoldable pub conflictFields : List Field
 conflictFields = LENGTH ∷ KIND ∷ JOB ∷ REVISION ∷ []
 
--- the kinds of records; a conflict stands in a board's slots only
+-- The kinds of records. A conflict occurs only in the slots of a board.
 abbrev pub questionKind : ℕ
 questionKind = 1
 
@@ -120,7 +124,7 @@ refusalKind = 3
 abbrev pub conflictKind : ℕ
 conflictKind = 4
 
--- sizes in bytes, where the tables end (proofs/Tables.antt): a question, an answer's head, an entry, a conflict
+-- The sizes in bytes of a question, an answer's head, an entry and a conflict. The tables end there (proofs/Tables.antt).
 abbrev pub questionSize : ℕ
 questionSize = 82
 
@@ -133,51 +137,55 @@ entrySize = 64
 abbrev pub conflictSize : ℕ
 conflictSize = 14
 
--- a refusal, by its number: each has the head alone
+-- The size of a refusal with the given number. Every refusal consists of the head alone.
 abbrev pub refusalSize : ℕ → ℕ
 refusalSize number = headSize
 
--- an answer with n entries, which is where the entry of index n starts too; how many it may have, and room for the longest
+-- The size of an answer with n entries. This is also the offset of the entry of index n.
 abbrev pub answerSize : ℕ → ℕ
 answerSize n = headSize + entrySize * n
 
+-- The greatest number of entries of an answer.
 abbrev pub mostEntries : ℕ
 mostEntries = 8
 
+-- The size of the longest answer.
 abbrev pub answerRoom : ℕ
 answerRoom = answerSize mostEntries
 
--- the length that a record of a size begins with: it counts what follows it
+-- The length of a record of the given size. It counts the bytes after the length field.
 abbrev pub lengthFor : ℕ → ℕ
 lengthFor size = size - LENGTH .width
 
 abbrev pub questionLength : ℕ
 questionLength = lengthFor questionSize
 
--- the lengths in force for a question, and room for the longest one
+-- The lengths in force for a question.
 unfoldable pub questionLengths : List ℕ
 questionLengths = questionLength ∷ []
 
+-- The size of the longest question.
 abbrev pub questionRoom : ℕ
 questionRoom = questionSize
 
--- the numbers of refusal in force: those of 01's table
+-- The first and the last refusal number in force, as in 01's table.
 abbrev pub firstNumber : ℕ
 firstNumber = 1
 
 abbrev pub lastNumber : ℕ
 lastNumber = 14
 
--- the number that a field of some bytes holds, and the bytes of a record whose fields hold some numbers
+-- The number stored in a field of the given bytes.
 abbrev pub valueOf : Field → List ℕ → ℕ
 valueOf f s = numberAt (f .width) s (f .offset)
 
+-- The bytes of a record whose fields have the given values.
 unfoldable pub encode : List Field → List ℕ → List ℕ
 encode [] vs = []
 encode (f ∷ fs) [] = []
 encode (f ∷ fs) (v ∷ vs) = bytesOf (f .width) v ++ encode fs vs
 
--- what a record's bytes name: their kind, job and revision, and the number of a refusal or of an answer's entries
+-- The kind, the job and the revision in a record's bytes, and the number of a refusal or of an answer's entries.
 abbrev pub kindOf : List ℕ → ℕ
 kindOf s = valueOf KIND s
 
@@ -190,15 +198,15 @@ revisionOf s = valueOf REVISION s
 abbrev pub numberOf : List ℕ → ℕ
 numberOf s = valueOf NUMBER s
 
--- the size of the record that some bytes begin, by the length that they begin with
+-- The size of the record at the start of the bytes, according to its length.
 abbrev pub sizeOf : List ℕ → ℕ
 sizeOf s = valueOf LENGTH s + LENGTH .width
 
--- the chosen end that the entry of index i of an answer names
+-- The chosen end in the entry of index i of an answer.
 abbrev pub chosenAt : ℕ → List ℕ → ℕ
 chosenAt i s = numberAt (CHOSEN .width) s (answerSize i + CHOSEN .offset)
 
--- whether fields stand one after another from `at` up to `end`
+-- Whether the fields follow one another from `at` to `end`, without gap or overlap.
 unfoldable pub tiles : ℕ → List Field → ℕ → Bool
 tiles at [] end = eqb at end
 tiles at (f ∷ fs) end = eqb (f .offset) at && tiles (at + f .width) fs end

@@ -1,4 +1,5 @@
--- What each record can hold: integers of their field's width, and floats that are f64s. Definitions only.
+-- The values that each record can hold: integers that fit the width of their
+-- field, and floats that are f64s. Definitions only.
 use Prim.Native.Nat.{_^_, _<_}
 use lib.Dec.{T}
 use lib.Ieee.{binary64, fits}

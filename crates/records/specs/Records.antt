@@ -1,4 +1,4 @@
--- What each record's bytes say, and the bytes of each record (01, Records on the wire). Definitions only.
+-- The record that the given bytes hold, and the bytes of each record (01, Records on the wire; 02, A1). Definitions only.
 use Prim.Native.Nat.{ℕ, _+_}
 use mathlib.Core.List.{List, [], _∷_, _++_}
 use lib.ListN.{length}
@@ -13,11 +13,11 @@ use Rattle.records.specs.declared.Question.{Question}
 use Rattle.records.specs.declared.Head.{Head}
 use Rattle.records.specs.declared.Entry.{Entry}
 
--- three f64 fields
+-- The vector in three f64 fields.
 abbrev pub vectorOf : Field → Field → Field → List ℕ → Vector
 vectorOf fx fy fz s = record { x = bits (valueOf fx s); y = bits (valueOf fy s); z = bits (valueOf fz s) }
 
--- a question, from its bytes and to them
+-- The question that the bytes hold.
 unfoldable pub questionOf : List ℕ → Question
 questionOf s = record {
   length = valueOf LENGTH s;
@@ -33,7 +33,7 @@ questionOf s = record {
   time = bits (valueOf TIME s);
 }
 
--- the numbers that a question's fields hold
+-- The values of a question's fields, in their order.
 abbrev pub questionNumbers : Question → List ℕ
 questionNumbers q =
     q .length
@@ -53,10 +53,11 @@ questionNumbers q =
     ∷ bitsOf (q .time)
     ∷ []
 
+-- The bytes of a question.
 unfoldable pub questionBytes : Question → List ℕ
 questionBytes q = encode questionFields (questionNumbers q)
 
--- the 16 bytes of a refusal, and those that an answer begins with
+-- The head that the bytes hold: the 16 bytes of a refusal, or the first 16 bytes of an answer.
 unfoldable pub headOf : List ℕ → Head
 headOf s = record {
   length = valueOf LENGTH s;
@@ -66,13 +67,15 @@ headOf s = record {
   number = valueOf NUMBER s;
 }
 
+-- The values of a head's fields, in their order.
 abbrev pub headNumbers : Head → List ℕ
 headNumbers h = h .length ∷ h .kind ∷ h .job ∷ h .revision ∷ h .number ∷ []
 
+-- The bytes of a head.
 unfoldable pub headBytes : Head → List ℕ
 headBytes h = encode headFields (headNumbers h)
 
--- the head of a refusal with its number, and of an answer with n entries
+-- The head of a refusal with the given number.
 unfoldable pub refusalHeadOf : ℕ → ℕ → ℕ → Head
 refusalHeadOf job revision number = record {
   length = lengthFor (refusalSize number);
@@ -82,6 +85,7 @@ refusalHeadOf job revision number = record {
   number = number;
 }
 
+-- The head of an answer with n entries.
 unfoldable pub answerHeadOf : ℕ → ℕ → ℕ → Head
 answerHeadOf job revision n = record {
   length = lengthFor (answerSize n);
@@ -91,18 +95,19 @@ answerHeadOf job revision n = record {
   number = n;
 }
 
--- a refusal as a whole
+-- The bytes of a whole refusal.
 unfoldable pub refusalBytes : ℕ → ℕ → ℕ → List ℕ
 refusalBytes job revision number = headBytes (refusalHeadOf job revision number)
 
--- a conflict of a job at a revision
+-- The values of a conflict's fields, for a job at a revision.
 abbrev pub conflictNumbers : ℕ → ℕ → List ℕ
 conflictNumbers job revision = lengthFor conflictSize ∷ conflictKind ∷ job ∷ revision ∷ []
 
+-- The bytes of a conflict.
 unfoldable pub conflictBytes : ℕ → ℕ → List ℕ
 conflictBytes job revision = encode conflictFields (conflictNumbers job revision)
 
--- an entry of an answer
+-- The entry that the bytes hold.
 unfoldable pub entryOf : List ℕ → Entry
 entryOf s = record {
   lower = signedOf (valueOf LOWER s);
@@ -112,6 +117,7 @@ entryOf s = record {
   v2 = vectorOf V2X V2Y V2Z s;
 }
 
+-- The values of an entry's fields, in their order.
 abbrev pub entryNumbers : Entry → List ℕ
 entryNumbers e =
     signedBits (e .lower)
@@ -125,13 +131,15 @@ entryNumbers e =
     ∷ bitsOf (e .v2 .z)
     ∷ []
 
+-- The bytes of an entry.
 unfoldable pub entryBytes : Entry → List ℕ
 entryBytes e = encode entryFields (entryNumbers e)
 
--- an answer as a whole: the head with the number of entries, and the entries one after another
+-- The bytes of entries, one after another.
 unfoldable pub entriesBytes : List Entry → List ℕ
 entriesBytes [] = []
 entriesBytes (e ∷ es) = entryBytes e ++ entriesBytes es
 
+-- The bytes of a whole answer: the head with the number of entries, and then the entries.
 unfoldable pub answerBytes : ℕ → ℕ → List Entry → List ℕ
 answerBytes job revision es = headBytes (answerHeadOf job revision (length es)) ++ entriesBytes es

@@ -15,6 +15,7 @@ use little_endian::word_at;
 
 const WIDTHS: [usize; PLACES] = [8, 4, 4, 8, 8, 8, 8, 8, 8, 0, 0, 0, 0, 0, 0, 0, 0, 0];
 
+// Returns the entry at the start of the bytes. A byte past the end counts as 0.
 pub fn read_entry(s: &[u8]) -> Entry
     ensures { λ r. ⌜ r ≡ entryOf (now (s .entry)) ⌝ }
 {
@@ -27,6 +28,7 @@ pub fn read_entry(s: &[u8]) -> Entry
     }
 }
 
+// Writes an entry to the start of the buffer and returns true. If there is no room, it changes nothing and returns false.
 pub fn write_entry(out: &mut [u8], e: Entry) -> bool
     ensures room { λ r. ⌜ r ≡ hasRoom (now (out .entry)) (entryBytes e) ⌝ }
     ensures bytes { λ _. ⌜ now (out .exit) ≡ written (now (out .entry)) (entryBytes e) ⌝ }
@@ -34,7 +36,7 @@ pub fn write_entry(out: &mut [u8], e: Entry) -> bool
     put_numbers(out, WIDTHS, numbers_of(e))
 }
 
-// What the fields hold, in the table's order.
+// Returns the values of the fields in the order of the table, with zeros after them.
 fn numbers_of(e: Entry) -> [u64; PLACES]
     ensures { λ r. ⌜ r ≡ inPlaces (entryNumbers e) ⌝ }
 {

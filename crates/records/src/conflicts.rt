@@ -1,4 +1,4 @@
-// A conflict, kind 4, which stands in a board's slots only: two records of one job and revision differ.
+// A conflict (kind 4) means that two records for one job and revision differ. Conflicts occur only in the slots of a board.
 ghost use mathlib.Core.Path.{_≡_};
 ghost use Rattle.little_endian.specs.Bytes.{hasRoom, written};
 ghost use Rattle.little_endian.specs.Tables.{inPlaces};
@@ -11,7 +11,7 @@ use little_endian::put_numbers;
 
 const WIDTHS: [usize; PLACES] = [4, 2, 4, 4, 0, 0, 0, 0, 0, 0, 0, 0, 0, 0, 0, 0, 0, 0];
 
-// Writes a conflict of a job at a revision.
+// Writes the conflict of a job at a revision and returns true. If there is no room, it changes nothing and returns false.
 pub fn write_conflict(out: &mut [u8], job: u32, revision: u32) -> bool
     ensures room { λ r. ⌜ r ≡ hasRoom (now (out .entry)) (conflictBytes job revision) ⌝ }
     ensures bytes { λ _. ⌜ now (out .exit) ≡ written (now (out .entry)) (conflictBytes job revision) ⌝ }
@@ -19,7 +19,7 @@ pub fn write_conflict(out: &mut [u8], job: u32, revision: u32) -> bool
     put_numbers(out, WIDTHS, numbers_of(job, revision))
 }
 
-// What the fields hold, in the table's order.
+// Returns the values of the fields in the order of the table, with zeros after them.
 fn numbers_of(job: u32, revision: u32) -> [u64; PLACES]
     ensures { λ r. ⌜ r ≡ inPlaces (conflictNumbers job revision) ⌝ }
 {

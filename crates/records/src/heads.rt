@@ -1,4 +1,4 @@
-// A refusal, kind 3, and the head of an answer, kind 2.
+// A refusal (kind 3), and the head of an answer (kind 2).
 ghost use mathlib.Core.Path.{_≡_};
 ghost use Rattle.little_endian.specs.Bytes.{hasRoom, written};
 ghost use Rattle.little_endian.specs.Tables.{inPlaces};
@@ -17,6 +17,7 @@ use little_endian::u32_at;
 
 const WIDTHS: [usize; PLACES] = [4, 2, 4, 4, 2, 0, 0, 0, 0, 0, 0, 0, 0, 0, 0, 0, 0, 0];
 
+// Returns the head at the start of the bytes. A byte past the end counts as 0.
 pub fn read_head(s: &[u8]) -> Head
     ensures { λ r. ⌜ r ≡ headOf (now (s .entry)) ⌝ }
 {
@@ -29,6 +30,7 @@ pub fn read_head(s: &[u8]) -> Head
     }
 }
 
+// Writes a head to the start of the buffer and returns true. If there is no room, it changes nothing and returns false.
 pub fn write_head(out: &mut [u8], h: Head) -> bool
     ensures room { λ r. ⌜ r ≡ hasRoom (now (out .entry)) (headBytes h) ⌝ }
     ensures bytes { λ _. ⌜ now (out .exit) ≡ written (now (out .entry)) (headBytes h) ⌝ }
@@ -36,7 +38,7 @@ pub fn write_head(out: &mut [u8], h: Head) -> bool
     put_numbers(out, WIDTHS, numbers_of(h))
 }
 
-// What the fields hold, in the table's order.
+// Returns the values of the fields in the order of the table, with zeros after them.
 fn numbers_of(h: Head) -> [u64; PLACES]
     ensures { λ r. ⌜ r ≡ inPlaces (headNumbers h) ⌝ }
 {
@@ -62,20 +64,22 @@ fn numbers_of(h: Head) -> [u64; PLACES]
     ]
 }
 
-// The size of a refusal with a number.
+// Returns the size of a refusal with the given number.
 pub fn refusal_size(number: u16) -> usize
     ensures { λ r. ⌜ r ≡ refusalSize number ⌝ }
 {
     HEAD_SIZE
 }
 
-// The size of an answer with so many entries, which is where the next entry would start.
+// Returns the size of an answer with the given number of entries. This is also
+// the offset at which one more entry would start.
 pub fn answer_size(entries: u16) -> usize
     ensures { λ r. ⌜ r ≡ answerSize entries ⌝ }
 {
     HEAD_SIZE + ENTRY_SIZE * (entries as usize)
 }
 
+// Returns the head of a refusal with the given number.
 fn refusal_head(job: u32, revision: u32, number: u16) -> Head
     ensures { λ r. ⌜ r ≡ refusalHeadOf job revision number ⌝ }
 {
@@ -88,7 +92,7 @@ fn refusal_head(job: u32, revision: u32, number: u16) -> Head
     }
 }
 
-// Writes a refusal with its number.
+// Writes a refusal with the given number and returns true. If there is no room, it changes nothing and returns false.
 pub fn write_refusal(out: &mut [u8], job: u32, revision: u32, number: u16) -> bool
     ensures room { λ r. ⌜ r ≡ hasRoom (now (out .entry)) (refusalBytes job revision number) ⌝ }
     ensures bytes { λ _. ⌜ now (out .exit) ≡ written (now (out .entry)) (refusalBytes job revision number) ⌝ }
@@ -96,7 +100,7 @@ pub fn write_refusal(out: &mut [u8], job: u32, revision: u32, number: u16) -> bo
     write_head(out, refusal_head(job, revision, number))
 }
 
-// What an answer with so many entries begins with.
+// Returns the head of an answer with the given number of entries.
 pub fn answer_head(job: u32, revision: u32, entries: u16) -> Head
     ensures { λ r. ⌜ r ≡ answerHeadOf job revision entries ⌝ }
 {

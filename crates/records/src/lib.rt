@@ -1,5 +1,6 @@
-// The records of 01, read from bytes and written to them. Reading takes any bytes, a byte past the end counting as 0; writing
-// starts at the buffer's first byte, and where there is no room it changes nothing and says so.
+// Reading and writing the records of 01, and the conflict of a board's slot (02, A1). Reading accepts any
+// bytes, and a byte past the end counts as 0. Writing starts at the first byte of the buffer. If the buffer is
+// too short, it changes nothing and returns false.
 ghost use mathlib.Core.Path.{_≡_};
 ghost use Rattle.records.specs.Constants.{layoutConstants};
 
@@ -30,7 +31,7 @@ pub use heads::write_refusal;
 pub use questions::read_question;
 pub use questions::write_question;
 
-// The kinds of records; a conflict stands in a board's slots only.
+// The kinds of records. A conflict occurs only in the slots of a board.
 pub const QUESTION_KIND: u16 = 1;
 
 pub const ANSWER_KIND: u16 = 2;
@@ -39,7 +40,7 @@ pub const REFUSAL_KIND: u16 = 3;
 
 pub const CONFLICT_KIND: u16 = 4;
 
-// The size of the length that a record begins with. It counts what follows it.
+// The size of the length field, with which a record begins. The length counts the bytes after this field.
 pub const LENGTH_SIZE: usize = 4;
 
 // The size of a question, its length, and the size of the longest question.
@@ -49,7 +50,8 @@ pub const QUESTION_LENGTH: u32 = (QUESTION_SIZE - LENGTH_SIZE) as u32;
 
 pub const QUESTION_ROOM: usize = QUESTION_SIZE;
 
-// The sizes of an answer's head, of an entry, of the longest answer, and of a conflict.
+// The sizes of an answer's head and of an entry, the greatest number of entries, and
+// the sizes of the longest answer and of a conflict.
 pub const HEAD_SIZE: usize = 16;
 
 pub const ENTRY_SIZE: usize = 64;
@@ -60,12 +62,13 @@ pub const ANSWER_ROOM: usize = HEAD_SIZE + ENTRY_SIZE * MOST_ENTRIES;
 
 pub const CONFLICT_SIZE: usize = 14;
 
-// The numbers of refusal in force.
+// The first and the last refusal number in force.
 pub const FIRST_NUMBER: u16 = 1;
 
 pub const LAST_NUMBER: u16 = 14;
 
-// A question (kind 1).
+// A question (kind 1). `way` is 0 for the short way and 1 for the long way. The positions
+// r1 and r2 are in km, `mu` in km^3/s^2 and `time` in s.
 pub struct Question {
     pub length: u32,
     pub kind: u16,
@@ -80,8 +83,8 @@ pub struct Question {
     pub time: f64,
 }
 
-// A refusal (kind 3), or what an answer (kind 2) begins with: `number` is that of the refusal, or how many
-// entries the answer has.
+// A refusal (kind 3), or the head of an answer (kind 2). `number` is the number of the
+// refusal, or the number of entries of the answer.
 pub struct Head {
     pub length: u32,
     pub kind: u16,
@@ -90,8 +93,8 @@ pub struct Head {
     pub number: u16,
 }
 
-// An entry of an answer: the bracket's lower end, how often it was halved, which end was chosen (0
-// the lower, 1 the upper), and the velocities there.
+// An entry of an answer: the lower end of the bracket, the number of halvings, the chosen end (0 is the lower end, 1
+// the upper end), and the velocities there in km/s.
 pub struct Entry {
     pub lower: i64,
     pub halvings: u32,
@@ -100,7 +103,7 @@ pub struct Entry {
     pub v2: Vector,
 }
 
-// The public constants.
+// The values of the public constants.
 struct Constants {
     question_kind: u16,
     answer_kind: u16,
@@ -119,7 +122,8 @@ struct Constants {
     last_number: u16,
 }
 
-// The public constants are the layout's. Nobody calls this function: its promise is what it is for.
+// Returns the public constants. No code calls this function: it exists for its
+// contract, which says that they are those of the layout.
 fn public_constants() -> Constants
     ensures { λ r. ⌜ r ≡ layoutConstants ⌝ }
 {

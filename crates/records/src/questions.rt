@@ -1,4 +1,4 @@
-// The question, kind 1.
+// A question (kind 1).
 ghost use mathlib.Core.Path.{_≡_};
 ghost use Rattle.little_endian.specs.Bytes.{hasRoom, written};
 ghost use Rattle.little_endian.specs.Tables.{inPlaces};
@@ -15,6 +15,7 @@ use little_endian::u32_at;
 
 const WIDTHS: [usize; PLACES] = [4, 2, 4, 4, 2, 1, 1, 8, 8, 8, 8, 8, 8, 8, 8, 0, 0, 0];
 
+// Returns the question at the start of the bytes. A byte past the end counts as 0.
 pub fn read_question(s: &[u8]) -> Question
     ensures { λ r. ⌜ r ≡ questionOf (now (s .entry)) ⌝ }
 {
@@ -33,6 +34,7 @@ pub fn read_question(s: &[u8]) -> Question
     }
 }
 
+// Writes a question to the start of the buffer and returns true. If there is no room, it changes nothing and returns false.
 pub fn write_question(out: &mut [u8], q: Question) -> bool
     ensures room { λ r. ⌜ r ≡ hasRoom (now (out .entry)) (questionBytes q) ⌝ }
     ensures bytes { λ _. ⌜ now (out .exit) ≡ written (now (out .entry)) (questionBytes q) ⌝ }
@@ -40,7 +42,7 @@ pub fn write_question(out: &mut [u8], q: Question) -> bool
     put_numbers(out, WIDTHS, numbers_of(q))
 }
 
-// What the fields hold, in the table's order.
+// Returns the values of the fields in the order of the table, with zeros after them.
 fn numbers_of(q: Question) -> [u64; PLACES]
     ensures { λ r. ⌜ r ≡ inPlaces (questionNumbers q) ⌝ }
 {

@@ -1,4 +1,4 @@
--- `public_constants` meets its contract: each constant is the layout's number.
+-- `public_constants` meets its contract: each constant is equal to the layout's number.
 use mathlib.Core.Path.{refl}
 use Rattle.records.proofs.public_constants.Statement.{statement}
 use Rattle.records.proofs.public_constants.Tie as tie

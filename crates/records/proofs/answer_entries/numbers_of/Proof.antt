@@ -1,4 +1,4 @@
--- `answer_entries::numbers_of` meets its contract, by what its calls ensure.
+-- `answer_entries::numbers_of` meets its contract. This follows from the contracts of the functions it calls.
 use native.Mathlib.Omega.{arith}
 use mir.Facts.{toZ-ofZ}
 use mir.Syntax.{w64}

@@ -1,4 +1,4 @@
--- `answer_entries::read_entry` meets its contract: each call reads the field that the layout has at its place.
+-- `answer_entries::read_entry` meets its contract: each call reads the field that the layout has at that offset.
 use native.Mathlib.Omega.{arith}
 use mir.Facts.{toZ-ofZ}
 use mir.Syntax.{w64}

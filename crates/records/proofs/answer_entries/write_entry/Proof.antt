@@ -1,4 +1,5 @@
--- `answer_entries::write_entry` meets its contract: the numbers by the table of widths are the entry's bytes.
+-- `answer_entries::write_entry` meets its contract: the numbers, each stored in the
+-- width that the table gives, are the entry's bytes.
 use Rattle.little_endian.specs.Bytes.{bytesOf}
 use Rattle.little_endian.specs.Tables.{packed}
 use Rattle.records.specs.Layout.{encode, entryFields}

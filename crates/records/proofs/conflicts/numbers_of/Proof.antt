@@ -1,4 +1,5 @@
--- `conflicts::numbers_of` meets its contract.
+-- `conflicts::numbers_of` meets its contract: the subtraction and the cast stay in
+-- range, and the array is that of the definition.
 use native.Mathlib.Omega.{arith}
 use mathlib.Core.Path.{refl}
 use Rattle.records.proofs.conflicts.numbers_of.Statement.{statement}

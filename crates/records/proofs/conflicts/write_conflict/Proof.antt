@@ -1,4 +1,5 @@
--- `conflicts::write_conflict` meets its contract: the numbers by the table of widths are the conflict's bytes.
+-- `conflicts::write_conflict` meets its contract: the numbers, each stored in the width
+-- that the table gives, are the conflict's bytes.
 use Rattle.little_endian.specs.Bytes.{bytesOf}
 use Rattle.little_endian.specs.Tables.{packed}
 use Rattle.records.specs.Layout.{encode, conflictFields}

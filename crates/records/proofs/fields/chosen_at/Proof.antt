@@ -1,4 +1,4 @@
--- `fields::chosen_at` meets its contract: entry i starts where an answer with i entries ends.
+-- `fields::chosen_at` meets its contract: the entry of index i starts where an answer with i entries ends.
 use borrow.Author.Needs.{needs}
 use Rattle.records.proofs.fields.chosen_at.Statement.{statement}
 use Rattle.records.proofs.fields.chosen_at.Tie as tie

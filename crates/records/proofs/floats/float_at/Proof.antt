@@ -1,4 +1,4 @@
--- `floats::float_at` meets its contract, by what its two calls ensure.
+-- `floats::float_at` meets its contract. This follows from the contracts of the two functions it calls.
 use Rattle.records.proofs.floats.float_at.Statement.{statement}
 use Rattle.records.proofs.floats.float_at.Tie as tie
 

@@ -1,4 +1,4 @@
--- `floats::vector_at` meets its contract, by what its three calls ensure.
+-- `floats::vector_at` meets its contract. This follows from the contract of `float_at`, which it calls three times.
 use borrow.Author.Needs.{needs}
 use Rattle.records.proofs.floats.vector_at.Statement.{statement}
 use Rattle.records.proofs.floats.vector_at.Tie as tie

@@ -1,4 +1,4 @@
--- `heads::answer_head` meets its contract.
+-- `heads::answer_head` meets its contract. This follows from the contract of `answer_size`.
 use Rattle.records.specs.Records.{answerHeadOf}
 use borrow.Author.Needs.{needs}
 use Rattle.records.proofs.heads.answer_head.Statement.{statement}

@@ -1,4 +1,4 @@
--- `heads::numbers_of` meets its contract.
+-- `heads::numbers_of` meets its contract: the casts change no value, and the array is that of the definition.
 use native.Mathlib.Omega.{arith}
 use mathlib.Core.Path.{refl}
 use Rattle.records.proofs.heads.numbers_of.Statement.{statement}

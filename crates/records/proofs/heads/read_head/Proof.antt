@@ -1,4 +1,4 @@
--- `heads::read_head` meets its contract: each call reads the field that the layout has at its place.
+-- `heads::read_head` meets its contract: each call reads the field that the layout has at that offset.
 use Rattle.records.specs.Records.{headOf}
 use Rattle.records.proofs.heads.read_head.Statement.{statement}
 use Rattle.records.proofs.heads.read_head.Tie as tie

@@ -1,4 +1,4 @@
--- `heads::refusal_head` meets its contract.
+-- `heads::refusal_head` meets its contract. This follows from the contract of `refusal_size`.
 use Rattle.records.specs.Records.{refusalHeadOf}
 use borrow.Author.Needs.{needs}
 use Rattle.records.proofs.heads.refusal_head.Statement.{statement}

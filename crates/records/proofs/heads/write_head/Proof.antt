@@ -1,4 +1,4 @@
--- `heads::write_head` meets its contract: the numbers by the table of widths are the head's bytes.
+-- `heads::write_head` meets its contract: the numbers, each stored in the width that the table gives, are the head's bytes.
 use Rattle.little_endian.specs.Bytes.{bytesOf}
 use Rattle.little_endian.specs.Tables.{packed}
 use Rattle.records.specs.Layout.{encode, headFields}

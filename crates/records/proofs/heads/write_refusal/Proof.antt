@@ -1,4 +1,4 @@
--- `heads::write_refusal` meets its contract: a refusal's bytes are its head's.
+-- `heads::write_refusal` meets its contract: the bytes of a refusal are those of its head.
 use Rattle.records.specs.Records.{refusalBytes}
 use borrow.Author.Needs.{needs}
 use Rattle.records.proofs.heads.write_refusal.Statement.{statement}

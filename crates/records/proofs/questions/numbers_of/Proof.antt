@@ -1,4 +1,4 @@
--- `questions::numbers_of` meets its contract, by what its calls ensure.
+-- `questions::numbers_of` meets its contract. This follows from the contracts of the functions it calls.
 use native.Mathlib.Omega.{arith}
 use Rattle.records.proofs.questions.numbers_of.Statement.{statement}
 use Rattle.records.proofs.questions.numbers_of.Tie as tie

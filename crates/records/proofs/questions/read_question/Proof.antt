@@ -1,4 +1,4 @@
--- `questions::read_question` meets its contract: each call reads the field that the layout has at its place.
+-- `questions::read_question` meets its contract: each call reads the field that the layout has at that offset.
 use native.Mathlib.Omega.{arith}
 use Rattle.records.specs.Records.{questionOf}
 use Rattle.records.proofs.questions.read_question.Statement.{statement}
