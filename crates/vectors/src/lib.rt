@@ -1,18 +1,19 @@
-// Vectors by component, in 01's order of operations (01, Triangle), and the root as a number.
+// Vectors, computed component by component in 01's order of operations (01, Triangle), and a square
+// root that returns a NaN instead of a refusal.
 ghost use mathlib.Core.Path.{_≡_};
 ghost use Rattle.vectors.specs.Vectors.{normSquared, difference, cross, dividedBy, opposite, orNan, rootOrNan};
 use float64::Root;
 use float64::Vector;
 use float64::square_root;
 
-// The square of a vector's length.
+// Returns the square of a vector's length.
 pub fn norm_squared(v: Vector) -> f64
     ensures { λ r. ⌜ r ≡ normSquared v ⌝ }
 {
     (v.x * v.x + v.y * v.y) + v.z * v.z
 }
 
-// From b to a: a - b.
+// Returns a - b, the vector from b to a.
 pub fn difference(a: Vector, b: Vector) -> Vector
     ensures { λ r. ⌜ r ≡ difference a b ⌝ }
 {
@@ -23,7 +24,7 @@ pub fn difference(a: Vector, b: Vector) -> Vector
     }
 }
 
-// The cross product a × b.
+// Returns the cross product a × b.
 pub fn cross(a: Vector, b: Vector) -> Vector
     ensures { λ r. ⌜ r ≡ cross a b ⌝ }
 {
@@ -34,7 +35,7 @@ pub fn cross(a: Vector, b: Vector) -> Vector
     }
 }
 
-// A vector over a number.
+// Divides a vector by a number.
 pub fn divided_by(v: Vector, d: f64) -> Vector
     ensures { λ r. ⌜ r ≡ dividedBy v d ⌝ }
 {
@@ -45,7 +46,7 @@ pub fn divided_by(v: Vector, d: f64) -> Vector
     }
 }
 
-// The vector turned round.
+// Returns the vector with every component negated.
 pub fn opposite(v: Vector) -> Vector
     ensures { λ r. ⌜ r ≡ opposite v ⌝ }
 {
@@ -56,7 +57,8 @@ pub fn opposite(v: Vector) -> Vector
     }
 }
 
-// A root as a number, NaN where it is refused, so that any positions have a shape.
+// Returns the value of a root, or a NaN if the root was refused. With this, any two positions have
+// a shape (see `geometry::shape_of`).
 pub fn or_nan(root: Root) -> f64
     ensures { λ r. ⌜ r ≡ orNan root ⌝ }
 {
@@ -66,6 +68,7 @@ pub fn or_nan(root: Root) -> f64
     }
 }
 
+// Returns the root of x, or a NaN if the root is refused.
 pub fn root_or_nan(x: f64) -> f64
     ensures { λ r. ⌜ r ≡ rootOrNan x ⌝ }
 {

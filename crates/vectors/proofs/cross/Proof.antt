@@ -1,4 +1,4 @@
--- `vectors::cross` meets its contract: the definition's components.
+-- `vectors::cross` meets its contract. The code computes each component as the definition does.
 use mathlib.Core.Path.{refl}
 use Rattle.vectors.specs.Vectors.{cross}
 use Rattle.vectors.proofs.cross.Statement.{statement}

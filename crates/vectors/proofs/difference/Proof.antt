@@ -1,4 +1,4 @@
--- `vectors::difference` meets its contract: the definition's components.
+-- `vectors::difference` meets its contract. The code computes each component as the definition does.
 use mathlib.Core.Path.{refl}
 use Rattle.vectors.specs.Vectors.{difference}
 use Rattle.vectors.proofs.difference.Statement.{statement}

@@ -1,4 +1,4 @@
--- `vectors::divided_by` meets its contract: the definition's components.
+-- `vectors::divided_by` meets its contract. The code computes each component as the definition does.
 use mathlib.Core.Path.{refl}
 use Rattle.vectors.specs.Vectors.{dividedBy}
 use Rattle.vectors.proofs.divided_by.Statement.{statement}

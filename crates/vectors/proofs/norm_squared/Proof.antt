@@ -1,4 +1,4 @@
--- `vectors::norm_squared` meets its contract: the definition's sum.
+-- `vectors::norm_squared` meets its contract. The code computes the same sum as the definition.
 use mathlib.Core.Path.{refl}
 use Rattle.vectors.specs.Vectors.{normSquared}
 use Rattle.vectors.proofs.norm_squared.Statement.{statement}

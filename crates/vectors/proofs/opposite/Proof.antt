@@ -1,4 +1,4 @@
--- `vectors::opposite` meets its contract: the definition's components.
+-- `vectors::opposite` meets its contract. The code computes each component as the definition does.
 use mathlib.Core.Path.{refl}
 use Rattle.vectors.specs.Vectors.{opposite}
 use Rattle.vectors.proofs.opposite.Statement.{statement}

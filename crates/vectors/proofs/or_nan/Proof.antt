@@ -1,4 +1,4 @@
--- `vectors::or_nan` meets its contract, at either variant of the root.
+-- `vectors::or_nan` meets its contract. The two returns are the two cases of the root: a value, or refused.
 use borrow.Author.Needs.{needs}
 use lib.Ieee.{div, ofBits}
 use Rattle.vectors.specs.Vectors.{orNan}

@@ -1,4 +1,4 @@
--- `vectors::root_or_nan` meets its contract, by what its calls ensure.
+-- `vectors::root_or_nan` meets its contract. This follows from the contracts of the two functions that it calls.
 use borrow.Author.Needs.{needs}
 use Rattle.vectors.specs.Vectors.{rootOrNan}
 use Rattle.vectors.proofs.root_or_nan.Statement.{statement}
