@@ -8,26 +8,26 @@ use Rattle.geometry.specs.declared.Triangle.{Triangle}
 use Rattle.geometry.specs.declared.Shape.{Shape}
 use Rattle.geometry.specs.declared.Frame.{Frame}
 
--- s from the two radii and the chord
+-- The semiperimeter s of the two radii and the chord.
 unfoldable pub semiperimeterOf : Float → Float → Float → Float
 semiperimeterOf r1 r2 c = ((r1 ⊕ r2) ⊕ c) ⊘ 2F
 
--- x, taken as 0 if it is below 0
+-- The number x, or 0 if x is below 0.
 unfoldable pub atLeastZero : Float → Float
 atLeastZero x = cond (x ≺ 0F) 0F x
 
--- L, negated for the long way
+-- L of the chord c and the semiperimeter s, negated for the long way.
 unfoldable pub lambdaOf : Float → Float → Bool → Float
 lambdaOf c s long = let root = rootOrNan (atLeastZero (1F ⊖ c ⊘ s)) in cond long (neg root) root
 
--- the five numbers that the time and velocity steps share, from the two radii, the chord and the way
+-- The five numbers that the time and velocity steps receive, computed from the two radii, the chord and the way.
 unfoldable pub triangleOf : Float → Float → Float → Bool → Triangle
 triangleOf r1 r2 c long =
     let s = semiperimeterOf r1 r2 c in
     let ρ = (r1 ⊖ r2) ⊘ c in
     record { lambda = lambdaOf c s long; semiperimeter = s; chord = c; rho = ρ; sigma = rootOrNan (1F ⊖ ρ ⊗ ρ) }
 
--- what the entrance checks ask of two positions: q and r of each, h and hh, and the triangle
+-- What the entrance checks need from two positions: q and r of each position, h and hh, and the triangle.
 unfoldable pub shapeOf : Vector → Vector → Bool → Shape
 shapeOf p1 p2 long =
     let q1 = normSquared p1 in
@@ -45,13 +45,13 @@ shapeOf p1 p2 long =
       triangle = triangleOf r1 r2 (rootOrNan (normSquared (difference p2 p1))) long;
     }
 
--- the unit vectors (01, Velocities), for the same positions and way as the shape: the normal n = h / √hh, negated for
--- the long way, and u_i = position / r_i by component
+-- The unit vectors (01, Velocities), for the positions and the way that the shape was computed from. The normal is
+-- n = h / √hh, negated for the long way. The radial unit vectors are u_i = position / r_i, by component.
 unfoldable pub frameOf : Vector → Vector → Shape → Bool → Frame
 frameOf p1 p2 g long =
     let n = dividedBy (g .h) (rootOrNan (g .hh)) in
     record { normal = cond long (opposite n) n; unit1 = dividedBy p1 (g .radius1); unit2 = dividedBy p2 (g .radius2) }
 
--- T*
+-- The wanted time T*.
 unfoldable pub wantedOf : Float → Float → Float → Float
 wantedOf mu s time = rootOrNan ((2F ⊗ mu) ⊘ ((s ⊗ s) ⊗ s)) ⊗ time

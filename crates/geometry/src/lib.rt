@@ -1,5 +1,6 @@
-// From two positions to their triangle, its plane and the wanted time (01, Triangle), and the
-// conditions that are asked of them. Each function takes any numbers.
+// Computes the triangle of two positions, its plane and the wanted time (01, Triangle), and the
+// conditions of the entrance checks on them. Every function accepts any f64, including NaNs and
+// infinities.
 ghost use mathlib.Core.Path.{_≡_};
 ghost use mathlib.Core.Bool.{cond};
 ghost use Rattle.vectors.specs.Vectors.{opposite};
@@ -21,10 +22,10 @@ use vectors::opposite;
 pub use vectors::or_nan;
 pub use vectors::root_or_nan;
 
-// The largest radius, and the largest component of a position: 2^40.
+// The largest radius, and the largest magnitude of a component of a position: 2^40.
 pub const LARGEST_LENGTH: f64 = 1099511627776.0;
 
-// The numbers that the time and velocity steps share: L, s, c, ρ and σ.
+// The five numbers that the time and velocity steps receive: L, s, c, ρ and σ.
 pub struct Triangle {
     pub lambda: f64,
     pub semiperimeter: f64,
@@ -33,8 +34,10 @@ pub struct Triangle {
     pub sigma: f64,
 }
 
-// What the checks and later steps ask of two positions: the square of each distance and the
-// distance, the positions' cross product h and its square, and the triangle.
+// What the entrance checks and later steps need from two positions. `q1` and `q2` are the squares of
+// the distances from the origin, and `radius1` and `radius2` are the distances. `h` is the cross
+// product of the positions, and `hh` is the square of its length. `triangle` is the triangle of the
+// positions and the way between them.
 pub struct Shape {
     pub q1: f64,
     pub q2: f64,
@@ -45,28 +48,30 @@ pub struct Shape {
     pub triangle: Triangle,
 }
 
-// Unit vectors: the normal of the plane, on the side that the way goes round, and the two radial ones.
+// Unit vectors. `normal` is the normal of the plane, negated for the long way. `unit1` and `unit2`
+// point from the origin to the two positions.
 pub struct Frame {
     pub normal: Vector,
     pub unit1: Vector,
     pub unit2: Vector,
 }
 
-// Half of the sum of the triangle's sides.
+// Returns half of the sum of the triangle's sides.
 fn semiperimeter(radius1: f64, radius2: f64, chord: f64) -> f64
     ensures { λ r. ⌜ r ≡ semiperimeterOf radius1 radius2 chord ⌝ }
 {
     ((radius1 + radius2) + chord) / 2.0
 }
 
-// x, taken as 0 if it is below 0: rounding may make the chord longer than the semiperimeter.
+// Returns x, or 0 if x is below 0. `lambda` needs this because rounding can make the chord longer
+// than the semiperimeter.
 fn at_least_zero(x: f64) -> f64
     ensures { λ r. ⌜ r ≡ atLeastZero x ⌝ }
 {
     if x < 0.0 { 0.0 } else { x }
 }
 
-// L, negative for the long way.
+// Returns L, negated for the long way.
 fn lambda(chord: f64, semiperimeter: f64, long_way: bool) -> f64
     ensures { λ r. ⌜ r ≡ lambdaOf chord semiperimeter «long_way» ⌝ }
 {
@@ -74,7 +79,7 @@ fn lambda(chord: f64, semiperimeter: f64, long_way: bool) -> f64
     if long_way { -root } else { root }
 }
 
-// The triangle of two radii and the chord between their ends.
+// Returns the triangle of two radii and the chord between their ends.
 pub fn triangle_of(radius1: f64, radius2: f64, chord: f64, long_way: bool) -> Triangle
     ensures { λ r. ⌜ r ≡ triangleOf radius1 radius2 chord «long_way» ⌝ }
 {
@@ -89,7 +94,7 @@ pub fn triangle_of(radius1: f64, radius2: f64, chord: f64, long_way: bool) -> Tr
     }
 }
 
-// What two positions and the way between them make.
+// Returns the shape of two positions and the way between them.
 pub fn shape_of(position1: Vector, position2: Vector, long_way: bool) -> Shape
     ensures { λ r. ⌜ r ≡ shapeOf position1 position2 «long_way» ⌝ }
 {
@@ -112,8 +117,8 @@ pub fn shape_of(position1: Vector, position2: Vector, long_way: bool) -> Shape
     }
 }
 
-// The unit vectors of two positions with their shape. Where they span no plane, the normal means
-// nothing.
+// Returns the unit vectors of two positions, given their shape. If the positions span no plane, the
+// normal is meaningless.
 pub fn frame_of(position1: Vector, position2: Vector, shape: Shape, long_way: bool) -> Frame
     ensures { λ r. ⌜ r ≡ frameOf position1 position2 shape «long_way» ⌝ }
 {
@@ -125,14 +130,14 @@ pub fn frame_of(position1: Vector, position2: Vector, shape: Shape, long_way: bo
     }
 }
 
-// The vector, turned round for the long way.
+// Returns v, negated for the long way.
 fn turned(v: Vector, long_way: bool) -> Vector
     ensures { λ r. ⌜ r ≡ cond «long_way» (opposite v) v ⌝ }
 {
     if long_way { opposite(v) } else { v }
 }
 
-// The wanted time, in the unit of time that mu and the semiperimeter make.
+// Returns the wanted time: the question's time in the unit that mu and the semiperimeter define.
 pub fn wanted_time(mu: f64, semiperimeter: f64, time: f64) -> f64
     ensures { λ r. ⌜ r ≡ wantedOf mu semiperimeter time ⌝ }
 {

@@ -1,4 +1,4 @@
--- `at_least_zero` meets its contract, at either outcome of its test.
+-- `at_least_zero` meets its contract. The two returns are the two results of its test.
 use mathlib.Core.Path.{sym, ap}
 use mathlib.Core.Bool.{Bool, cond}
 use Rattle.float64.specs.Notation.{0F}

@@ -1,4 +1,4 @@
--- `frame_of` meets its contract, by what its calls ensure.
+-- `frame_of` meets its contract. This follows from the contracts of the functions that it calls.
 use borrow.Author.Needs.{needs}
 use mathlib.Core.Path.{sym}
 use Rattle.geometry.specs.Triangles.{frameOf}

@@ -1,4 +1,5 @@
--- `lambda` meets its contract, at either way, by what its calls ensure.
+-- `lambda` meets its contract. The two returns are the long way and the short way. Each follows from the contracts of
+-- the functions that `lambda` calls.
 use borrow.Author.Needs.{needs}
 use mathlib.Core.Path.{sym}
 use Rattle.geometry.specs.Triangles.{lambdaOf}

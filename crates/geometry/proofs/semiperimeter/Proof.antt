@@ -1,4 +1,4 @@
--- `semiperimeter` meets its contract: the definition's sum and quotient.
+-- `semiperimeter` meets its contract. The code computes the same sum and quotient as the definition.
 use mathlib.Core.Path.{refl}
 use Rattle.geometry.specs.Triangles.{semiperimeterOf}
 use Rattle.geometry.proofs.semiperimeter.Statement.{statement}

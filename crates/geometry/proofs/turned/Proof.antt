@@ -1,4 +1,4 @@
--- `turned` meets its contract, at either way.
+-- `turned` meets its contract. The two returns are the long way and the short way.
 use borrow.Author.Needs.{needs}
 use Rattle.geometry.proofs.turned.Statement.{statement}
 use Rattle.geometry.proofs.turned.Tie as tie

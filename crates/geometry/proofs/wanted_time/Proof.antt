@@ -1,4 +1,4 @@
--- `wanted_time` meets its contract, by what the root ensures.
+-- `wanted_time` meets its contract. This follows from the contract of `root_or_nan`.
 use borrow.Author.Needs.{needs}
 use mathlib.Core.Path.{ap}
 use lib.Ieee.{Float}

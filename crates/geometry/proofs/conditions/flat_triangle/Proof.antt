@@ -1,4 +1,4 @@
--- `conditions::flat_triangle` meets its contract: the definition's comparison.
+-- `conditions::flat_triangle` meets its contract. The code makes the same comparison as the definition.
 use mathlib.Core.Path.{refl}
 use Rattle.geometry.specs.Conditions.{flatTriangle}
 use Rattle.geometry.proofs.conditions.flat_triangle.Statement.{statement}

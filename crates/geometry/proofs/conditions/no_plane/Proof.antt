@@ -1,4 +1,5 @@
--- `conditions::no_plane` meets its contract: the definition's comparison, the literal being 2^-40.
+-- `conditions::no_plane` meets its contract. The code makes the same comparison as the definition, and its literal is
+-- 2^-40.
 use mathlib.Core.Path.{refl}
 use Rattle.geometry.specs.Conditions.{noPlane}
 use Rattle.geometry.proofs.conditions.no_plane.Statement.{statement}

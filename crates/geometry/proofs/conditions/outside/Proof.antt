@@ -1,4 +1,4 @@
--- `conditions::outside` meets its contract, by what `is_finite` ensures.
+-- `conditions::outside` meets its contract. This follows from the contract of `is_finite`.
 use borrow.Author.Needs.{needs}
 use mathlib.Core.Path.{sym}
 use Rattle.geometry.specs.Conditions.{outsideOf}

@@ -1,4 +1,4 @@
--- `conditions::radius_outside` meets its contract: `outside` of the one radius or of the other.
+-- `conditions::radius_outside` meets its contract. This follows from the contract of `outside`, once for each radius.
 use borrow.Author.Needs.{needs}
 use mathlib.Core.Path.{sym}
 use Rattle.geometry.specs.Conditions.{radiusOutside}

@@ -1,4 +1,5 @@
--- `conditions::short_chord` meets its contract: the definition's comparison, the literal being 2^-10.
+-- `conditions::short_chord` meets its contract. The code makes the same comparison as the definition, and its literal
+-- is 2^-10.
 use mathlib.Core.Path.{refl}
 use Rattle.geometry.specs.Conditions.{shortChord}
 use Rattle.geometry.proofs.conditions.short_chord.Statement.{statement}
