@@ -1,6 +1,7 @@
--- THE TABLE of 01, Numbers of refusal, for 1 to 10: a number is given exactly when its own condition holds and no
--- earlier one does (`refused-exactly`), a question is accepted exactly when none holds (`accepted-exactly`), and what
--- the ten conditions are (`the-conditions`). By induction on the list of checks, whose numbers rise.
+-- The entrance checks follow 01's table for the numbers 1 to 10 (01, Numbers of refusal). A number is given exactly
+-- when its own condition holds and no earlier one does (`refused-exactly`). A question is accepted exactly when no
+-- condition holds (`accepted-exactly`). `the-conditions` lists the ten conditions. The proofs are by induction on the
+-- list of checks, whose numbers rise.
 use Prim.Native.Nat.{ℕ, zero, suc, _≤_, _<_}
 use mathlib.Core.Path.{_≡_, refl, sym, ap, _∙_, subst}
 use mathlib.Core.Bool.{Bool, true, false, cond, true≢false, false≢true}
@@ -22,12 +23,12 @@ use Rattle.entrance.specs.Table.{appliesIn, conditionOf, First, Exactly}
 use Rattle.entrance.specs.declared.Problem.{Problem}
 use Rattle.entrance.specs.declared.Judged.the-variants.{Refused, Accepted}
 
--- ---- lists whose numbers rise, from above `low`
+-- ---- lists of checks whose numbers rise, all above `low`
 pub data Rising : ℕ → List Check → Type 0 where
   none : {low : ℕ} → Rising low []
   more : {low : ℕ} {c : Check} {cs : List Check} → low < c .number → Rising (c .number) cs → Rising low (c ∷ cs)
 
--- a number that is not above `low` has no check
+-- No check of the list has a number that is not above `low`.
 below : (low : ℕ) (cs : List Check) (m : ℕ) → Rising low cs → m ≤ low → appliesIn cs m ≡ false
 unfolding appliesIn
 below low [] m none h = refl
@@ -35,7 +36,7 @@ below low (c ∷ cs) m (more l r) h =
     let d : eqb (c .number) m ≡ false = ne-eqb (c .number) m (λ (e : c .number ≡ m). omega arith) in
     ap (λ (b : Bool). cond b (c .applies) (appliesIn cs m)) d ∙ below (c .number) cs m r (le-of-lt (lt-of-le-of-lt h l))
 
--- what a list says of a number, by whether it is that of the first check
+-- The value of `appliesIn` at n, in two cases: n is the number of the first check, or it is not.
 at-head : (c : Check) (cs : List Check) (n : ℕ) → c .number ≡ n → appliesIn (c ∷ cs) n ≡ c .applies
 unfolding appliesIn
 at-head c cs n e = ap (λ (b : Bool). cond b (c .applies) (appliesIn cs n)) (eq-eqb (c .number) n e)
@@ -44,11 +45,12 @@ past-head : (c : Check) (cs : List Check) (n : ℕ) → (c .number ≡ n → ⊥
 unfolding appliesIn
 past-head c cs n d = ap (λ (b : Bool). cond b (c .applies) (appliesIn cs n)) (ne-eqb (c .number) n d)
 
--- a check that applies in the rest of the list has a larger number than the first
+-- If the check with the number n applies, n is above `low`.
 later : (low : ℕ) (cs : List Check) (n : ℕ) → Rising low cs → appliesIn cs n ≡ true → low < n
 later low cs n r e = lt-of-not-le (λ (h : n ≤ low). true≢false (sym e ∙ below low cs n r h))
 
--- ---- lists whose numbers are at most `high`: a larger number has no check
+-- ---- lists of checks whose numbers are at most `high`
+-- No check of the list has a number above `high` (`above`).
 pub data UpTo (high : ℕ) : List Check → Type 0 where
   none : UpTo high []
   more : {c : Check} {cs : List Check} → c .number ≤ high → UpTo high cs → UpTo high (c ∷ cs)
@@ -59,6 +61,8 @@ above high [] n none h = refl
 above high (c ∷ cs) n (more l r) h = past-head c cs n (λ (e : c .number ≡ n). omega arith) ∙ above high cs n r h
 
 -- ---- the first check that applies
+-- For a list whose numbers rise, `firstOf` gives n above 0 exactly when `First` holds for n: `first-is` and `is-first`
+-- are the two directions.
 pub first-is : (low : ℕ) (cs : List Check) (n : ℕ) → Rising low cs → 0 < n → firstOf cs ≡ n → First (appliesIn cs) n
 unfolding firstOf
 first-is low [] n none p e = absurd (lt-irrefl 0 (subst (λ (x : ℕ). 0 < x) (sym e) p))
@@ -104,7 +108,7 @@ is-first low (c ∷ cs) n (more l r) f = by (λ (g : First (appliesIn cs) n). is
         rest m true e g = below (c .number) cs m r (le-of-eq (sym (eqb-true (c .number) m e)))
         rest m false e g = sym (past-head c cs m (eqb-false (c .number) m e)) ∙ g
 
--- no check applies
+-- `firstOf` is 0 exactly when no check applies: `none-first` and `first-none` are the two directions.
 pub none-first : (low : ℕ) (cs : List Check) → Rising low cs → ((n : ℕ) → appliesIn cs n ≡ false) → firstOf cs ≡ 0
 none-first low cs r f = by (firstOf cs) refl
   where
@@ -126,7 +130,7 @@ first-none low (c ∷ cs) (more l r) e n = by (λ (f : firstOf cs ≡ 0). first-
         pick true k = at-head c cs n (eqb-true (c .number) n k) ∙ h
         pick false k = past-head c cs n (eqb-false (c .number) n k) ∙ rest f
 
--- ---- the verdict, of the first number
+-- ---- the verdict that follows from the number N of the first check
 the-number : (N : ℕ) (p : Problem) (n : ℕ) → cond (eqb N 0) (Accepted p) (Refused N) ≡ Refused n → N ≡ n
 the-number N p n e = by (eqb N 0) e
   where
@@ -149,7 +153,7 @@ no-number N p e = by (eqb N 0) refl e
 accepts : (N : ℕ) (p : Problem) → N ≡ 0 → cond (eqb N 0) (Accepted p) (Refused N) ≡ Accepted p
 accepts N p e = ap (λ (x : ℕ). cond (eqb x 0) (Accepted p) (Refused x)) e
 
--- ---- of a question
+-- ---- the theorems about a question
 module _ (s : List ℕ) (room : ℕ) where
   abbrev q : Question
   q = questionOf s
@@ -189,7 +193,8 @@ module _ (s : List ℕ) (room : ℕ) where
   unfolding judgeOf
   accepted-when e = accepts (firstOf (checks (length s) room q g)) (problemOf q g) e
 
-  -- an accepted problem is the question's own, and then the answer buffer has room
+  -- An accepted problem is the problem of the question itself (`accepted-problem`), and the answer buffer then has room
+  -- for any answer (`accepted-room`).
   pub accepted-problem : (p : Problem) → judgeOf s room ≡ Accepted p → p ≡ problemOf q g
   unfolding judgeOf
   accepted-problem p e = by (eqb (firstOf (checks (length s) room q g)) 0) e
@@ -203,14 +208,14 @@ module _ (s : List ℕ) (room : ℕ) where
   accepted-room p e =
       ltb-false room answerRoom (accepted-exactly .only (e ∙ ap Accepted (accepted-problem p e)) 7)
 
-  -- what the ten conditions are, in the table's order
+  -- The ten conditions, in the order of the table.
   pub the-conditions : map (conditionOf s room) (1 ∷ 2 ∷ 3 ∷ 4 ∷ 5 ∷ 6 ∷ 7 ∷ 8 ∷ 9 ∷ 10 ∷ [])
       ≡ malformed (length s) q ∷ positionsFar q ∷ radiusOutside g ∷ muOutside q ∷ timeOutside q ∷ manyRevolutions q ∷ smallBuffer room
       ∷ noPlane g ∷ shortChord (g .triangle) ∷ flatTriangle (g .triangle) ∷ []
   unfolding conditionOf appliesIn checks
   the-conditions = refl
 
-  -- and no other number has one
+  -- No number outside 1 to 10 has a condition that holds.
   pub only-ten : (n : ℕ) → conditionOf s room n ≡ true → (0 < n) × (n ≤ 10)
   unfolding conditionOf
   only-ten n e = (

@@ -1,5 +1,5 @@
--- From a question's bytes and the answer buffer's size to the first fault or the problem to solve (01, Numbers of
--- refusal). Definitions only.
+-- The verdict on a question's bytes and the answer buffer's size: the number of the first check that applies, or the
+-- problem to solve (01, Numbers of refusal). Definitions only.
 use Prim.Native.Nat.{ℕ}
 use mathlib.Core.Bool.{Bool, cond}
 use mathlib.Core.List.{List, [], _∷_}
@@ -15,7 +15,7 @@ use Rattle.entrance.specs.declared.Problem.{Problem}
 use Rattle.entrance.specs.declared.Judged.{Judged}
 use Rattle.entrance.specs.declared.Judged.the-variants.{Refused, Accepted}
 
--- a number of 01's table, and whether its condition holds
+-- A number of 01's table, and whether its condition holds.
 pub record Check : Type 0 where
   pub number : ℕ
   pub applies : Bool
@@ -23,11 +23,11 @@ pub record Check : Type 0 where
 abbrev pub check : ℕ → Bool → Check
 check n b = record { number = n; applies = b }
 
--- the long way is way 1
+-- Whether the question asks for the long way, which is way 1.
 abbrev pub longWay : Question → Bool
 longWay q = eqb (q .way) 1
 
--- the entrance checks of the table, in its order
+-- The entrance checks, in the order of the table.
 unfoldable pub checks : ℕ → ℕ → Question → Shape → List Check
 checks size room q g =
     check 1 (malformed size q)
@@ -42,12 +42,12 @@ checks size room q g =
     ∷ check 10 (flatTriangle (g .triangle))
     ∷ []
 
--- the number of the first check that applies, and 0 where none does
+-- The number of the first check that applies, or 0 if none applies.
 unfoldable pub firstOf : List Check → ℕ
 firstOf [] = 0
 firstOf (c ∷ cs) = cond (c .applies) (c .number) (firstOf cs)
 
--- what is left to solve once no check applies
+-- The problem that is left to solve if no check applies.
 unfoldable pub problemOf : Question → Shape → Problem
 problemOf q g = record {
   job = q .job;
@@ -62,7 +62,7 @@ problemOf q g = record {
   wanted = wantedOf (q .mu) (g .triangle .semiperimeter) (q .time);
 }
 
--- the verdict on a question's bytes with an answer buffer of `room` bytes
+-- The verdict on the bytes of a question, for an answer buffer of `room` bytes.
 unfoldable pub judgeOf : List ℕ → ℕ → Judged
 judgeOf s room =
     let q = questionOf s in

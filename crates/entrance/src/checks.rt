@@ -1,4 +1,4 @@
-// The entrance checks, each on its own, and the first that applies.
+// The entrance checks one by one, and the first of them that applies.
 ghost use mathlib.Core.Path.{_≡_};
 ghost use mathlib.Core.Bool.{cond};
 ghost use Rattle.geometry.specs.Conditions.{radiusOutside, noPlane, shortChord, flatTriangle};
@@ -14,10 +14,10 @@ use records::QUESTION_LENGTH;
 use records::QUESTION_SIZE;
 use records::Question;
 
-// 2^60
+// The largest mu: 2^60.
 const LARGEST_MU: f64 = 1152921504606846976.0;
 
-// 2^40
+// The longest time: 2^40.
 const LONGEST_TIME: f64 = 1099511627776.0;
 
 const MOST_REVOLUTIONS: u16 = 16;
@@ -30,7 +30,7 @@ fn is_malformed(size: usize, q: Question) -> bool
             | ((q.kind != QUESTION_KIND) | ((q.job == 0) | ((q.way > 1) | (q.spare != 0)))))
 }
 
-// Whether a component isn't finite or exceeds 2^40 in size.
+// Reports whether a component is not finite or exceeds 2^40 in magnitude.
 fn far_off(x: f64) -> bool
     ensures { λ r. ⌜ r ≡ farOff x ⌝ }
 {
@@ -75,14 +75,14 @@ fn small_buffer(room: usize) -> bool
     room < ANSWER_ROOM
 }
 
-// The number n where the check applies, and otherwise what the later checks gave.
+// Returns n if the check applies, and otherwise `rest`, the result of the later checks.
 fn pick(applies: bool, n: u16, rest: u16) -> u16
     ensures { λ r. ⌜ r ≡ cond applies n rest ⌝ }
 {
     if applies { n } else { rest }
 }
 
-// Checks 8 to 10, or 0.
+// Returns the number of the first of checks 8 to 10 that applies, or 0.
 fn shape_fault(shape: Shape) -> u16
     ensures { λ r. ⌜ r ≡ cond (noPlane shape) 8 (cond (shortChord (shape .triangle)) 9 (cond (flatTriangle (shape .triangle)) 10 0)) ⌝ }
 {
@@ -92,7 +92,8 @@ fn shape_fault(shape: Shape) -> u16
     pick(geometry::no_plane(shape), 8, short)
 }
 
-// Checks 4 to 7, or what the later ones gave.
+// Returns the number of the first of checks 4 to 7 that applies, or `rest`, the result of the later
+// checks.
 fn number_fault(q: Question, room: usize, rest: u16) -> u16
     ensures { λ r. ⌜ r ≡ cond (muOutside q) 4 (cond (timeOutside q) 5 (cond (manyRevolutions q) 6 (cond (smallBuffer room) 7 rest))) ⌝ }
 {
@@ -102,7 +103,7 @@ fn number_fault(q: Question, room: usize, rest: u16) -> u16
     pick(mu_outside(q), 4, time)
 }
 
-// The number of the first check that applies, and 0 where none does.
+// Returns the number of the first check that applies, or 0 if none applies.
 pub(crate) fn first_fault(size: usize, room: usize, q: Question, shape: Shape) -> u16
     ensures { λ r. ⌜ r ≡ firstOf (checks size room q shape) ⌝ }
 {

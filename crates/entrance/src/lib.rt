@@ -1,5 +1,5 @@
-// The entrance: from any bytes and the answer buffer's size to the number of the first fault, 1 to
-// 10, or to the problem to solve (01, Numbers of refusal).
+// The entrance checks (01, Numbers of refusal). `judge` takes any bytes and the size of an answer
+// buffer. Its verdict is the number of the first fault, from 1 to 10, or the problem to solve.
 ghost use mathlib.Core.Path.{_≡_};
 ghost use Rattle.entrance.specs.Judge.{problemOf, judgeOf};
 
@@ -12,7 +12,7 @@ use geometry::Shape;
 use geometry::Triangle;
 use records::Question;
 
-// What is to be solved: the question's own numbers, its triangle and unit vectors, and the wanted
+// The problem to solve: the question's own numbers, its triangle and unit vectors, and the wanted
 // time in the triangle's unit.
 pub struct Problem {
     pub job: u32,
@@ -27,12 +27,14 @@ pub struct Problem {
     pub wanted: f64,
 }
 
-// The number of the first fault, or the problem.
+// The verdict on a question: refused with the number of the first fault, or accepted as a problem
+// to solve.
 pub enum Judged {
     Refused(u16),
     Accepted(Problem),
 }
 
+// Returns the verdict on the bytes of a question, for an answer buffer of `room` bytes.
 pub fn judge(question: &[u8], room: usize) -> Judged
     ensures { λ r. ⌜ r ≡ judgeOf (now (question .entry)) room ⌝ }
 {
@@ -48,7 +50,7 @@ pub fn judge(question: &[u8], room: usize) -> Judged
     }
 }
 
-// The problem of a question and its shape.
+// Returns the problem of a question, given its shape.
 fn problem_of(q: Question, shape: Shape) -> Problem
     ensures { λ r. ⌜ r ≡ problemOf q shape ⌝ }
 {

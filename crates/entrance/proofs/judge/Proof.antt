@@ -1,4 +1,5 @@
--- `judge` meets its contract: what its calls ensure, put together, and the fault is 0 or not.
+-- `judge` meets its contract. This follows from the contracts of the functions that it calls, in two cases: the fault
+-- is 0, or it is not.
 use mathlib.Core.Path.{sym}
 use borrow.Author.Tests.{eq-eqb, ne-eqb}
 use Rattle.entrance.specs.Judge.{judgeOf}

@@ -1,4 +1,4 @@
--- `problem_of` meets its contract, by what its two calls ensure.
+-- `problem_of` meets its contract. This follows from the contracts of the two functions that it calls.
 use Rattle.entrance.specs.Judge.{problemOf}
 use borrow.Author.Needs.{needs}
 use Rattle.entrance.proofs.problem_of.Statement.{statement}

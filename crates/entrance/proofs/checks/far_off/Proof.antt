@@ -1,4 +1,4 @@
--- `checks::far_off` meets its contract, by what its calls ensure.
+-- `checks::far_off` meets its contract. This follows from the contracts of the two functions that it calls.
 use Rattle.entrance.specs.Conditions.{farOff}
 use borrow.Author.Needs.{needs}
 use Rattle.entrance.proofs.checks.far_off.Statement.{statement}

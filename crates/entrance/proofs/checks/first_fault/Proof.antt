@@ -1,4 +1,4 @@
--- `checks::first_fault` meets its contract: each `pick` is a row of the table, and the rows from the fourth on are
+-- `checks::first_fault` meets its contract. Each `pick` is one row of the table, and the rows from the fourth on are
 -- those of `number_fault` and `shape_fault`.
 use Rattle.entrance.specs.Judge.{checks, firstOf}
 use borrow.Author.Needs.{needs}

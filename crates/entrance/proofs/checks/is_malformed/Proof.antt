@@ -1,4 +1,4 @@
--- `checks::is_malformed` meets its contract: the code's tests are the definition's.
+-- `checks::is_malformed` meets its contract. The code makes the same tests as the definition.
 use mathlib.Core.Path.{refl}
 use Rattle.entrance.specs.Conditions.{malformed}
 use Rattle.entrance.proofs.checks.is_malformed.Statement.{statement}

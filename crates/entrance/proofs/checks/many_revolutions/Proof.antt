@@ -1,4 +1,4 @@
--- `checks::many_revolutions` meets its contract.
+-- `checks::many_revolutions` meets its contract. The code makes the same comparison as the definition.
 use mathlib.Core.Path.{refl}
 use Rattle.entrance.specs.Conditions.{manyRevolutions}
 use Rattle.entrance.proofs.checks.many_revolutions.Statement.{statement}

@@ -1,4 +1,4 @@
--- `checks::mu_outside` meets its contract, by what its calls ensure.
+-- `checks::mu_outside` meets its contract. This follows from the contract of `geometry::outside`.
 use Rattle.entrance.specs.Conditions.{muOutside}
 use borrow.Author.Needs.{needs}
 use Rattle.entrance.proofs.checks.mu_outside.Statement.{statement}

@@ -1,4 +1,4 @@
--- `checks::number_fault` meets its contract: each `pick` is a case of the chain.
+-- `checks::number_fault` meets its contract. Each `pick` is one case of the chain in the contract.
 use borrow.Author.Needs.{needs}
 use Rattle.entrance.proofs.checks.number_fault.Statement.{statement}
 use Rattle.entrance.proofs.checks.number_fault.Tie as tie

@@ -1,4 +1,4 @@
--- `checks::position_far` meets its contract, by what its calls ensure.
+-- `checks::position_far` meets its contract. This follows from the contract of `far_off`, once for each component.
 use Rattle.entrance.specs.Conditions.{positionFar}
 use borrow.Author.Needs.{needs}
 use Rattle.entrance.proofs.checks.position_far.Statement.{statement}

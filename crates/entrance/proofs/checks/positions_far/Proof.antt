@@ -1,4 +1,4 @@
--- `checks::positions_far` meets its contract, by what its calls ensure.
+-- `checks::positions_far` meets its contract. This follows from the contract of `position_far`, once for each position.
 use Rattle.entrance.specs.Conditions.{positionsFar}
 use borrow.Author.Needs.{needs}
 use Rattle.entrance.proofs.checks.positions_far.Statement.{statement}

@@ -1,4 +1,4 @@
--- `checks::shape_fault` meets its contract: each `pick` is a case of the chain.
+-- `checks::shape_fault` meets its contract. Each `pick` is one case of the chain in the contract.
 use borrow.Author.Needs.{needs}
 use Rattle.entrance.proofs.checks.shape_fault.Statement.{statement}
 use Rattle.entrance.proofs.checks.shape_fault.Tie as tie

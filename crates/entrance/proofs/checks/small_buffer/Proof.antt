@@ -1,4 +1,4 @@
--- `checks::small_buffer` meets its contract.
+-- `checks::small_buffer` meets its contract. The code makes the same comparison as the definition.
 use mathlib.Core.Path.{refl}
 use Rattle.entrance.specs.Conditions.{smallBuffer}
 use Rattle.entrance.proofs.checks.small_buffer.Statement.{statement}

@@ -1,4 +1,4 @@
--- `checks::time_outside` meets its contract, by what its calls ensure.
+-- `checks::time_outside` meets its contract. This follows from the contract of `geometry::outside`.
 use Rattle.entrance.specs.Conditions.{timeOutside}
 use borrow.Author.Needs.{needs}
 use Rattle.entrance.proofs.checks.time_outside.Statement.{statement}
