@@ -1,5 +1,6 @@
--- The bounds that follow from the checks 3, 8, 9 and 10: of c and c/s, of L, ρ and σ, of hh, and of the frame. A bound from below that a
--- check gives only through a later operation is shown by contradiction (`least-unless`): were the number smaller, the result would be too.
+-- Bounds that follow from checks 3, 8, 9 and 10: those of c and c/s, of L, ρ and σ, of hh, and of the frame. Some
+-- checks test only the result of a later operation. The lower bound of the operand is then shown by contradiction
+-- (`least-unless`): if the operand were smaller, the result would be too small as well.
 use mathlib.Core.Path.{_≡_, ap, _∙_}
 use mathlib.Core.Bool.{Bool, true, false, not, cond, false≢true}
 use Prim.Native.Nat.{ℕ, zero, suc, _*_, _^_, _≤_, _<_}
@@ -23,7 +24,8 @@ use Rattle.bound_laws.proofs.Roots.{root-most, root-least, least-not-be
 use Rattle.bound_laws.proofs.Comparisons.{zero-least, one-most, one-least, plane-factor-most, plane-factor-least}
 use Rattle.bound_laws.proofs.Comparisons.{not-above-most, chord-limit-least, not-at-most, least-positive, at-least-zero-most}
 
--- ---- a bound from below by contradiction: x is at least L / M, unless it is at most L / M
+-- ---- a lower bound by contradiction
+-- If x cannot be at most L / M, then x is at least L / M.
 least-unless : {x : Float} {p q l m : ℕ} (L M : ℕ) → 0 < M → AtMost x p q → AtLeast x l m → (AtMost x L M → ⊥) → AtLeast x L M
 least-unless {x} L M C a b never = by (ltb (num x * M) (L * den x)) (ltb→lt (num x * M) (L * den x)) (nltb→le (num x * M) (L * den x))
   where
@@ -31,7 +33,7 @@ least-unless {x} L M C a b never = by (ltb (num x * M) (L * den x)) (ltb→lt (n
     by true f g = absurd (never (record { divisor = C; is-f64 = a .is-f64; is-finite = a .is-finite; at-most = le-of-lt (f tt) }))
     by false f g = record { divisor = C; is-finite = b .is-finite; not-negative = b .not-negative; at-least = g tt }
 
--- no number is at most 1 / q and at least 1 / m, where q is at least twice m
+-- If q is at least twice m, no number is both at most 1 / q and at least 1 / m.
 exclusive : {x : Float} (q m : ℕ) → AtMost x 1 q → AtLeast x 1 m → 0 < m → m * 2 ≤ q → ⊥
 exclusive {x} q m a b M h = clash (num x) (den x) (den-pos x) (a .at-most) (b .at-least)
   where
@@ -78,7 +80,7 @@ lambda-most c s long R =
     by true r = neg-most r
     by false r = r
 
--- |L| < 1, as the time's step 1 asks
+-- |L| < 1, in the form that step 1 of the time tests.
 pub below-one : (x : Float) → AtMost x 2047 2048 → (magnitudeOf x ≺ 1F) ≡ true
 unfolding magnitudeOf lt ofBits finiteOf
 below-one nan a = absurd (false≢true (a .is-finite))
@@ -123,13 +125,13 @@ sigma-within ρ O = record {
   most = root-most (O .most) (least-not-below (O .least)) (dyadic 1 0 (lit< tt) (lit≤ tt)) (lit≤ tt);
 }
 
--- ---- q, where the radius is at least 1
+-- ---- q of a position whose radius is at least 1
 pub norm-least : (q : Float) → Within q 0 1 (2 ^ 82) 1 → AtLeast (rootOrNan q) 1 1 → AtLeast q 1 4
 norm-least q Q R = least-unless 1 4 (lit< tt) (Q .most) (Q .least) (λ a.
     let small = root-most a (least-not-below (Q .least)) (dyadic 1 1 (lit< tt) (lit≤ tt)) (lit≤ tt) in
     exclusive 2 1 small R (lit< tt) (lit≤ tt))
 
--- ---- hh, and its root
+-- ---- hh and its root
 pub plane-within : (q1 q2 hh : Float) → Within q1 1 4 (2 ^ 82) 1 → Within q2 1 4 (2 ^ 82) 1 → AtMost hh (2 ^ 164) 1
     → (hh ≼ (q1 ⊗ q2) ⊗ bits 0x3D70_0000_0000_0000) ≡ false → Within hh 1 (2 ^ 44) (2 ^ 164) 1
 plane-within q1 q2 hh Q1 Q2 H h =

@@ -1,5 +1,6 @@
--- The bounds that follow from a comparison: a finite number that is not below p / q is at least p / q, and so on. Then the constants of
--- the entrance checks as fractions, and what each of these checks says of a number that it lets through.
+-- Bounds that follow from comparisons. For example, a finite number that is not below p / q is at least p / q. The file
+-- also gives the constants of the entrance checks as fractions, and the bounds of a number that passes each of these
+-- checks.
 use mathlib.Core.Path.{_≡_, refl, sym, ap, _∙_, subst}
 use mathlib.Core.Bool.{Bool, true, false, not, _||_, _&&_, cond, true≢false, false≢true}
 use Prim.Native.Nat.{ℕ, zero, suc, _+_, _*_, _^_, _≤_, _<_, zero-le}
@@ -27,7 +28,7 @@ use Rattle.bound_laws.proofs.Fractions.{zero-product}
 use Rattle.bound_laws.proofs.Operations.{most-weaker}
 use Rattle.bound_laws.proofs.Roots.{least-not-below}
 
--- ---- the bounds of a number whose value is known
+-- ---- bounds of a number whose value is known
 pub value-most : (x : Float) (p q : ℕ) → 0 < q → T (fits binary64 x) → HasValue x false p q → AtMost x p q
 unfolding finiteOf
 value-most nan p q Q t v = absurd v
@@ -40,7 +41,7 @@ value-least nan p q Q v = absurd v
 value-least (inf s) p q Q v = absurd v
 value-least (fin s m e) p q Q v = record { divisor = Q; is-finite = refl; not-negative = v .0; at-least = le-of-eq (sym (v .1)) }
 
--- ---- the constants that the checks compare with, as fractions
+-- ---- the constants in the checks, as fractions
 zero-is : HasValue 0F false 0 1
 unfolding ofBits
 zero-is = (refl, refl)
@@ -94,7 +95,7 @@ plane-factor-most =
 pub plane-factor-least : AtLeast (bits 0x3D70_0000_0000_0000) 1 (2 ^ 40)
 plane-factor-least = value-least (bits 0x3D70_0000_0000_0000) 1 (2 ^ 40) (lit< tt) plane-factor-is
 
--- ---- what follows where y ≺ x or x ≺ y is false
+-- ---- bounds that follow if `y ≺ x` or `x ≺ y` is false
 some-value : (n p q e : ℕ) → 0 < p → 0 < e → n * q ≡ p * e → 0 < n
 some-value n p q e P E h = first-pos n q (subst (λ (z : ℕ). 0 < z) (sym h) (mul-pos P E))
 
@@ -139,7 +140,7 @@ pub both-false : (a b : Bool) → a || b ≡ false → (a ≡ false) × (b ≡ f
 both-false true b h = absurd (true≢false h)
 both-false false b h = (refl, h)
 
--- where `outsideOf` is false, the number is between the two limits
+-- If `outsideOf` is false, x is between the two limits.
 within : (low high x : Float) (p P : ℕ) → 0 < p → T (fits binary64 x) → HasValue low false p 1 → HasValue high false P 1
     → outsideOf low high x ≡ false → Within x p 1 P 1
 unfolding outsideOf
@@ -165,7 +166,7 @@ one-not-under x f h = not-under x 1F 1 1 (lit< tt) (lit< tt) f one-is h
 pub one-not-over : (x : Float) → T (fits binary64 x) → finiteOf x ≡ true → (1F ≺ x) ≡ false → NotAbove x 1 1
 one-not-over x t f h = not-over x 1F 1 1 (lit< tt) t f one-is h
 
--- a component that check 2 lets through is at most 2^40 in magnitude
+-- A component that passes check 2 is at most 2^40 in magnitude (`component-most`).
 magnitude-most : (x : Float) → T (fits binary64 x) → finiteOf x ≡ true → NotAbove (magnitudeOf x) (2 ^ 40) 1 → AtMost x (2 ^ 40) 1
 unfolding magnitudeOf finiteOf
 magnitude-most nan t f h = absurd (false≢true f)
@@ -193,7 +194,8 @@ component-most x t h =
     let g = magnitude-finite x ∙ f in
     magnitude-most x t f (not-over (magnitudeOf x) 2^40F (2 ^ 40) 1 (lit< tt) (magnitude-fits x t) g two-to-40-is (a .1))
 
--- ---- where x ≼ y is false and y is not negative, x is above 0 and at least y
+-- ---- bounds that follow if `x ≼ y` is false
+-- If x ≼ y is false and y is not negative, x is above 0 and at least any lower bound of y (`not-at-most`).
 is-above : (m : ℕ) (e : ℤ) (n : ℕ) (d : ℤ) → le (fin false m e) (fin false n d) ≡ false → n * up d * down e < m * up e * down d
 unfolding le
 is-above m e n d h =
@@ -241,7 +243,8 @@ not-at-most (fin false m e) (fin false n d) p q f a h =
       first-pos (m * up e) (down d) (lt-of-le-of-lt zero-le l),
     )
 
--- ---- an f64 above 0 is at least 2^-1074, the least positive f64
+-- ---- the least positive f64
+-- An f64 above 0 is at least 2^-1074.
 pub least-positive : (x : Float) → T (fits binary64 x) → finiteOf x ≡ true → negative x ≡ false → 0 < num x → AtLeast x 1 (2 ^ 1074)
 unfolding finiteOf
 least-positive nan t f n h = absurd (false≢true f)
@@ -254,7 +257,7 @@ least-positive (fin s (suc m) e) t f n h = record {
   at-least = le-trans (mul-le-mul h (fits-says s m e t .1)) (le-of-eq refl);
 }
 
--- ---- a number that is replaced by 0 where it is below 0
+-- ---- numbers that are replaced by 0 if they are below 0
 not-below-most : (x : Float) (p q : ℕ) → NotAbove x p q → (x ≺ 0F) ≡ false → num x * q ≤ p * den x
 not-below-most nan p q u h = zero-product q (p * 1)
 not-below-most (inf s) p q u h = zero-product q (p * 1)

@@ -1,6 +1,7 @@
--- A finite number that is not negative lies between g / 2 ^ 46 and (g + 1) / 2 ^ 46 for some whole number g: the quotient of its numerator
--- times 2 ^ 46 by its denominator. Since K / 2 ^ 46 is an f64 for every K of 53 binary digits (`dyadic`), bounds by whole numbers of
--- 2 ^ -46 lose at most one such step in an operation whose result is below 2 ^ 7.
+-- For every finite number that is not negative there is a whole number g such that the number is between g / 2 ^ 46 and
+-- (g + 1) / 2 ^ 46 (`fixed-point`). This g is the whole quotient of its numerator times 2 ^ 46 by its denominator. The
+-- fraction K / 2 ^ 46 is an f64 for every K of at most 53 binary digits (`dyadic`). So bounds that are whole multiples
+-- of 2 ^ -46 lose at most one step of 2 ^ -46 in an operation whose result is below 2 ^ 7.
 use Prim.Native.Nat.{ℕ, _+_, _*_, _/_, _^_, _≤_, _<_}
 use native.Mathlib.Nat.{le-of-lt, mul-le-mul-right, le-of-mul-le-mul-right, div-mul-le-self, div-lt-iff-lt-mul}
 use native.Mathlib.Omega.{arith}
@@ -9,7 +10,7 @@ use lib.Ieee.{Float}
 use lib.Ieee.Positive.{num, den, den-pos}
 use Rattle.bound_laws.specs.Bounds.{AtMost, AtLeast}
 
--- x is between g / 2 ^ 46 and (g + 1) / 2 ^ 46
+-- x is between g / 2 ^ 46 and (g + 1) / 2 ^ 46.
 pub record FixedPoint (x : Float) (g : ℕ) : Type 0 where
   pub least : AtLeast x g (2 ^ 46)
   pub most : AtMost x (g + 1) (2 ^ 46)

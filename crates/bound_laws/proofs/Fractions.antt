@@ -1,5 +1,6 @@
--- Products, quotients, sums and differences of fractions of whole numbers, each with its bound. Nothing here is about f64s: a fraction's
--- bound is an inequality between products of whole numbers, and each lemma multiplies such inequalities.
+-- Bounds of products, quotients, sums and differences of fractions of whole numbers. Nothing here is about f64s. A
+-- bound of a fraction is an inequality between products of whole numbers, and each lemma multiplies inequalities
+-- of this form.
 use mathlib.Core.Path.{_≡_, sym, _∙_}
 use Prim.Native.Nat.{ℕ, _+_, _-_, _*_, _≤_, _<_}
 use native.Mathlib.Nat.{le-trans, le-of-eq, mul-pos, mul-comm, mul-assoc, mul-left-comm, mul-mul-mul-comm, mul-le-mul}
@@ -9,12 +10,13 @@ use native.Mathlib.Omega.{arith}
 pub zero-product : (a b : ℕ) → 0 * a ≤ b
 zero-product a b = omega arith
 
--- X / dx ≤ p / q and Y / dy ≤ p′ / q′
+-- If X / dx ≤ p / q and Y / dy ≤ p′ / q′, the product of the left sides is at most the product of the right sides.
 pub products : (X Y q q′ p p′ dx dy : ℕ) → X * q ≤ p * dx → Y * q′ ≤ p′ * dy → X * Y * (q * q′) ≤ p * p′ * (dx * dy)
 products X Y q q′ p p′ dx dy h k =
     le-trans (le-of-eq (mul-mul-mul-comm X Y q q′)) (le-trans (mul-le-mul h k) (le-of-eq (mul-mul-mul-comm p dx p′ dy)))
 
--- X / dx ≤ p / q and p′ / q′ ≤ Y / dy
+-- If X / dx ≤ p / q and p′ / q′ ≤ Y / dy, then X / dx divided by Y / dy is at most p / q divided by p′ / q′.
+-- `least-quotients` is the same with all inequalities reversed.
 pub quotients : (X dy q p′ p q′ Y dx : ℕ) → X * q ≤ p * dx → p′ * dy ≤ Y * q′ → X * dy * (q * p′) ≤ p * q′ * (Y * dx)
 quotients X dy q p′ p q′ Y dx h k =
     let l : X * dy * (q * p′) ≡ X * q * (p′ * dy) = simp (mul-assoc, mul-comm, mul-left-comm) in
@@ -27,7 +29,8 @@ least-quotients X dy q p′ p q′ Y dx h k =
     let r : X * q * (p′ * dy) ≡ X * dy * (q * p′) = simp (mul-assoc, mul-comm, mul-left-comm) in
     le-trans (le-of-eq l) (le-trans (mul-le-mul h k) (le-of-eq r))
 
--- X / dx ≤ p / q and Y / dy ≤ p′ / q′
+-- If X / dx ≤ p / q and Y / dy ≤ p′ / q′, the sum of the left sides is at most the sum of the right sides. `least-sums`
+-- is the same with all inequalities reversed.
 pub sums : (X dx Y dy p q p′ q′ : ℕ) → X * q ≤ p * dx → Y * q′ ≤ p′ * dy → (X * dy + Y * dx) * (q * q′) ≤ (p * q′ + p′ * q) * (dx * dy)
 sums X dx Y dy p q p′ q′ h k =
     let a : X * q * (q′ * dy) ≤ p * dx * (q′ * dy) = mul-le-mul-right (q′ * dy) h in
@@ -47,7 +50,8 @@ difference-most a b Q R h = le-trans (le-of-eq (mul-comm (a - b) Q ∙ mul-sub Q
     cut : (x y : ℕ) → x ≡ a * Q → y ≡ b * Q → x - y ≤ R
     cut x y e f = omega (arith, h)
 
--- X / dx ≤ p / q, p′ / q′ ≤ Y / dy and p / q ≤ P / Q + p′ / q′: the difference is at most P / Q
+-- If X / dx ≤ p / q, p′ / q′ ≤ Y / dy and p / q ≤ P / Q + p′ / q′, the difference of X / dx and Y / dy is at most
+-- P / Q.
 pub differences : (X dx Y dy p q p′ q′ P Q : ℕ) → 0 < q → 0 < q′ → X * q ≤ p * dx → p′ * dy ≤ Y * q′
     → p * (Q * q′) ≤ (P * q′ + p′ * Q) * q → (X * dy - Y * dx) * Q ≤ P * (dx * dy)
 differences X dx Y dy p q p′ q′ P Q A B h k l =
@@ -68,7 +72,7 @@ difference-least a b Q R h =
     cut : (x y : ℕ) → x ≡ a * Q → y ≡ b * Q → R ≤ x - y
     cut x y e f = omega (arith, h)
 
--- p / q ≤ X / dx, Y / dy ≤ p′ / q′ and P / Q + p′ / q′ ≤ p / q
+-- If p / q ≤ X / dx, Y / dy ≤ p′ / q′ and P / Q + p′ / q′ ≤ p / q, the sum of P / Q and Y / dy is at most X / dx.
 sum-below : (X dx Y dy p q p′ q′ P Q : ℕ) → 0 < q → 0 < q′ → p * dx ≤ X * q → Y * q′ ≤ p′ * dy → (P * q′ + p′ * Q) * q ≤ p * (Q * q′)
     → P * (dx * dy) + Y * dx * Q ≤ X * dy * Q
 sum-below X dx Y dy p q p′ q′ P Q A B h k l = le-of-mul-le-mul-right {k = q * q′} whole (mul-pos A B)
@@ -80,7 +84,8 @@ sum-below X dx Y dy p q p′ q′ P Q A B h k l = le-of-mul-le-mul-right {k = q 
         let c : (P * q′ + p′ * Q) * q * (dx * dy) ≤ p * (Q * q′) * (dx * dy) = mul-le-mul-right (dx * dy) l in
         omega arith
 
--- under the same conditions the difference is at least P / Q, and X / dx is at least Y / dy
+-- Under the same conditions the difference of X / dx and Y / dy is at least P / Q (`least-differences`), and X / dx is
+-- at least Y / dy (`first-larger`).
 pub least-differences : (X dx Y dy p q p′ q′ P Q : ℕ) → 0 < q → 0 < q′ → p * dx ≤ X * q → Y * q′ ≤ p′ * dy
     → (P * q′ + p′ * Q) * q ≤ p * (Q * q′) → P * (dx * dy) ≤ (X * dy - Y * dx) * Q
 least-differences X dx Y dy p q p′ q′ P Q A B h k l =

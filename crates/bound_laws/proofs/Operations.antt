@@ -1,6 +1,8 @@
--- The bounds of x ⊕ y, x ⊖ y, x ⊗ y and x ⊘ y, from bounds of x and y. An operation on finite numbers rounds the exact result once, so an
--- f64 that bounds the exact result bounds the rounded one too (Rounding.antt). A name in `-most` bounds the magnitude, and says that the
--- result is finite; one in `-least` bounds the result from below, by a number that is not negative; `sub-not-above` bounds it from above.
+-- Bounds of x ⊕ y, x ⊖ y, x ⊗ y and x ⊘ y that follow from bounds of x and y. An operation on finite numbers rounds the
+-- exact result once. So an f64 that bounds the exact result also bounds the rounded result (Rounding.antt). Lemmas
+-- whose names end in `-most` bound the magnitude of the result and show that it is finite. Lemmas whose names end in
+-- `-least` bound the result from below by a number that is not negative. `sub-not-above` bounds a difference from
+-- above.
 use mathlib.Core.Path.{_≡_, refl, sym, ap, _∙_, subst}
 use mathlib.Core.Bool.{Bool, true, false, not, _&&_, Bool·beq, cond, true≢false, false≢true}
 use Prim.Native.Nat.{ℕ, _+_, _-_, _*_, _≤_, _<_}
@@ -20,7 +22,8 @@ use Rattle.bound_laws.proofs.Fractions.{zero-product, products, quotien
 use Rattle.bound_laws.proofs.Fractions.{least-differences}
 use Rattle.bound_laws.proofs.Fractions.{first-larger}
 
--- ---- each operation on finite numbers is the exact result, rounded once
+-- ---- operations on finite numbers
+-- Each operation is the exact result, rounded once. The divisor of a quotient must not be zero.
 pub mul-is : (x y : Float) → finiteOf x ≡ true → finiteOf y ≡ true
     → x ⊗ y ≡ round binary64 (unlike (negative x) (negative y)) (num x * num y) (den x * den y)
 unfolding mul finiteOf
@@ -57,7 +60,8 @@ pub sub-is : (x y : Float) → x ⊖ y ≡ x ⊕ neg y
 unfolding sub
 sub-is x y = refl
 
--- ---- a negated number has the same magnitude and the other sign
+-- ---- negation
+-- A negated number has the same magnitude and the other sign.
 pub neg-finite : (x : Float) → finiteOf (neg x) ≡ finiteOf x
 unfolding neg finiteOf
 neg-finite nan = refl
@@ -107,7 +111,7 @@ least-weaker {x} {p} {q} P Q h C k = record {
   at-least = through P p (num x) Q q (den x) (h .divisor) k (h .at-least);
 }
 
--- a number that is at least p / q, with p above 0, is not zero
+-- A number that is at least p / q, with p above 0, is not zero.
 pub above-zero : {x : Float} {p q : ℕ} → AtLeast x p q → 0 < p → 0 < num x
 above-zero {x} {p} {q} h P = first-pos (num x) q (lt-of-lt-of-le (mul-pos P (den-pos x)) (h .at-least))
 
@@ -141,7 +145,7 @@ mul-least {x} {y} {p} {q} {p′} {q′} {P} {Q} a b H f h =
     (through P (p * p′) (num x * num y) Q (q * q′) (den x * den y) (mul-pos (a .divisor) (b .divisor)) h
     (products p p′ (den x) (den y) (num x) (num y) q q′ (a .at-least) (b .at-least))))
 
--- a square is not negative
+-- If x and its square are finite, the square is not negative.
 pub square-least : (x : Float) → finiteOf x ≡ true → Representable 0 1 → finiteOf (x ⊗ x) ≡ true → AtLeast (x ⊗ x) 0 1
 square-least x g H f =
     let e : x ⊗ x ≡ round binary64 false (num x * num x) (den x * den x) =
@@ -200,7 +204,7 @@ pub sub-most : {x y : Float} {p q p′ q′ P Q : ℕ} → AtMost x p q → AtMo
     → (p * q′ + p′ * q) * Q ≤ P * (q * q′) → AtMost (x ⊖ y) P Q
 sub-most {x} {y} {P = P} {Q = Q} a b H h = subst (λ (z : Float). AtMost z P Q) (sym (sub-is x y)) (add-most a (neg-most b) H h)
 
--- the sum of two numbers that are not negative
+-- If both signs are +, `sum` rounds the sum of the two magnitudes.
 sum-plus : (s t : Bool) (a b c : ℕ) → s ≡ false → t ≡ false → sum binary64 s a t b c ≡ round binary64 false (a + b) c
 unfolding sum
 sum-plus false false a b c e f = refl
@@ -220,7 +224,8 @@ add-least {x} {y} {p} {q} {p′} {q′} {P} {Q} a b H f h =
     (least-sums (num x) (den x) (num y) (den y) p q p′ q′ (a .at-least) (b .at-least))))
 
 -- ---- differences
--- x ⊖ y for x and y that are not negative: at most P / Q where x ≤ p / q, p′ / q′ ≤ y and p / q ≤ P / Q + p′ / q′
+-- Let P / Q be an f64, and let x and y be numbers that are not negative, with x ≤ p / q and p′ / q′ ≤ y. If
+-- p / q ≤ P / Q + p′ / q′, then x ⊖ y is at most P / Q (`sub-not-above`).
 sum-not-above : {P Q : ℕ} (s t : Bool) (a b c : ℕ) → 0 < c → Representable P Q → s ≡ false → t ≡ true → (a - b) * Q ≤ P * c
     → finiteOf (sum binary64 s a t b c) ≡ true → T (fits binary64 (sum binary64 s a t b c)) → NotAbove (sum binary64 s a t b c) P Q
 unfolding sum
@@ -249,7 +254,8 @@ sub-not-above {x} {y} {p} {q} {p′} {q′} {l} {m} {P} {Q} a s b r H h =
     (differences (num x) (den x) (num y) (den y) p q p′ q′ P Q (a .divisor) (b .divisor) (a .at-most) (b .at-least) h)
     (subst (λ (z : Float). finiteOf z ≡ true) e (r .is-finite)) (subst (λ (z : Float). T (fits binary64 z)) e (r .is-f64)))
 
--- x ⊕ y where p / q ≤ x and |y| ≤ p′ / q′: at least P / Q, where P / Q + p′ / q′ ≤ p / q
+-- Let P / Q be an f64, p / q ≤ x and |y| ≤ p′ / q′. If P / Q + p′ / q′ ≤ p / q and x ⊕ y is finite, then x ⊕ y is at
+-- least P / Q (`add-any-least`).
 sum-any-least : {P Q : ℕ} (s t : Bool) (a b c : ℕ) → 0 < c → Representable P Q → s ≡ false → b ≤ a → P * c ≤ (a - b) * Q
     → finiteOf (sum binary64 s a t b c) ≡ true → AtLeast (sum binary64 s a t b c) P Q
 unfolding sum

@@ -1,6 +1,7 @@
--- THE THEOREM: the bounds of every question that no entrance check refuses (`past-bounds`). No square root of its triangle, wanted time or
--- frame is refused, every number is finite, |L| is below 1, and the wanted time is a finite number above 0. By following 01's steps from
--- the components of the positions on: each step's bounds come from those before it, and from the check that speaks of it.
+-- The bounds of every question that no entrance check refuses (`past-bounds`). No square root in its triangle, wanted
+-- time or frame is refused, every number is finite, |L| is below 1, and the wanted time is finite and above 0. The
+-- proof follows 01's steps, starting from the components of the positions. The bounds of each step follow from those of
+-- the earlier steps and from the check on the step's result, if there is one.
 use mathlib.Core.Path.{_≡_}
 use mathlib.Core.Bool.{Bool, true, false, _||_, cond}
 use mathlib.Core.List.{List}
@@ -31,7 +32,8 @@ use Rattle.bound_laws.proofs.Checks.{ratio-within, chord-within, lambda
 use Rattle.bound_laws.proofs.Checks.{rho-most, sigma-operand, sigma-within, norm-least, plane-within, plane-root}
 use Rattle.bound_laws.proofs.Checks.{divided-most, opposite-most}
 
--- ---- every number that is read from bytes is an f64
+-- ---- the numbers of a question
+-- Every number that is read from bytes is an f64 (`question-f64`).
 record F64Vector (v : Vector) : Type 0 where
   x : T (fits binary64 (v .x))
   y : T (fits binary64 (v .y))
@@ -175,7 +177,7 @@ problem-bounds q g P1 P2 G M D =
     }
 
 -- ---- the theorem
--- what the checks 2 to 5 and 8 to 10 say of a question that they let through
+-- What checks 2 to 5 and 8 to 10 say about a question that passes them.
 record NoFault (q : Question) (g : Shape) : Type 0 where
   positions : positionsFar q ≡ false
   radii : radiusOutside g ≡ false

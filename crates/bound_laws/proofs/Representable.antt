@@ -1,5 +1,7 @@
--- Which fractions are f64s: 2 ^ a, and K / 2 ^ b for every K of 53 binary digits. Both are a whole number of units of 2 ^ -1074 with
--- at most 53 binary digits, times a power of two, and below 2 ^ 1024: `round-exact` of the library says that rounding keeps those.
+-- Two kinds of fractions are f64s: 2 ^ a for a of at most 1023 (`power-of-two`), and K / 2 ^ b for K of at most 53
+-- binary digits and b of at most 1074 (`dyadic`). In units of 2 ^ -1074, both are a whole number of at most 53 binary
+-- digits times a power of two, and both are below 2 ^ 1024. By `round-exact` of the library, rounding does not change
+-- them.
 use mathlib.Core.Path.{_≡_, sym, ap, _∙_}
 use mathlib.Core.Bool.{false}
 use Prim.Native.Nat.{ℕ, _+_, _-_, _*_, _^_, _≤_, _<_}

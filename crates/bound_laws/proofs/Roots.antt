@@ -1,6 +1,7 @@
--- The bounds of a square root. The root is a value wherever x is finite and not below 0 (`root-value`). Where c / d is an f64 and x is at
--- most its square, the root is at most c / d (`root-most`), and likewise from below (`root-least`): by the law of the root every other f64
--- lies farther from √x than the root does, so c / d cannot lie between √x and the root.
+-- Bounds of a square root. If x is finite and not below 0, its root is not refused (`root-value`). Let c / d be an f64.
+-- If x is at most the square of c / d, the root is at most c / d (`root-most`). If x is above 0 and at least the square
+-- of c / d, the root is at least c / d (`root-least`). The reason is that every other f64 is farther from √x than the
+-- root is (`nearest-root`), so c / d cannot be between √x and the root.
 use mathlib.Core.Path.{_≡_, refl, sym, ap, _∙_, subst}
 use mathlib.Core.Logic.{inl, inr}
 use mathlib.Core.Bool.{Bool, true, false, not, true≢false, false≢true}
@@ -26,7 +27,7 @@ use Rattle.vectors.specs.Vectors.{orNan, rootOrNan}
 use Rattle.bound_laws.specs.Bounds.{Representable, AtMost, AtLeast}
 use Rattle.bound_laws.proofs.Fractions.{zero-product}
 
--- ---- a value as a fraction, whatever its sign
+-- ---- values as fractions, for either sign
 size-of : (x : Float) (s : Bool) (a c : ℕ) → HasValue x s a c → num x * c ≡ a * den x
 size-of nan s a c v = absurd v
 size-of (inf t) s a c v = absurd v
@@ -41,13 +42,14 @@ value-is (fin t m e) s a c v = (refl, refl, v .0)
 units-size : (x : Float) → T (fits binary64 x) → finiteOf x ≡ true → num x * 2 ^ 1074 ≡ unitsOf x * den x
 units-size x h f = size-of x (negative x) (unitsOf x) (2 ^ 1074) (units-exact x h f)
 
--- two fractions of one value
+-- If n / e is equal to both a / c and b / d, then a * d and b * c are equal.
 crossed : (n e a c b d : ℕ) → 0 < e → n * c ≡ a * e → n * d ≡ b * e → a * d ≡ b * c
 crossed n e a c b d E h k =
     eq-of-mul-eq-mul-right e E (a * d) (b * c)
     (mul-right-comm a d e ∙ ap (λ (z : ℕ). z * d) (sym h) ∙ mul-right-comm n c d ∙ ap (λ (z : ℕ). z * c) k ∙ mul-right-comm b e c)
 
--- ---- in units of 2 ^ -1074: u is 2 ^ 1074, the operand has X units and the bound c / d has Y
+-- ---- squares in units of 2 ^ -1074
+-- Here u is 2 ^ 1074, the operand has X units, and the bound c / d has Y units.
 below-square : (X Y p q c d u : ℕ) → 0 < q → 0 < d → X * q ≤ p * u → Y * d ≡ c * u → p * (d * d) ≤ c * c * q → X * u ≤ Y * Y
 below-square X Y p q c d u A B h e k = le-of-mul-le-mul-right {k = q * (d * d)} whole (mul-pos A (mul-pos B B))
   where
@@ -68,7 +70,7 @@ above-square X Y p q c d u A B h e k = le-of-mul-le-mul-right {k = q * (d * d)} 
         let f : Y * d * (Y * d) * q ≡ c * u * (c * u) * q = ap (λ (z : ℕ). z * z * q) e in
         omega arith
 
--- where R is nearer to √N than Y is, Y does not lie between them
+-- If R is nearer to √N than Y is, Y is not between √N and R.
 bound-not-below : (N R Y : ℕ) → N ≤ Y * Y → Y < R → Farther N R false Y → ⊥
 bound-not-below N R Y h l (inl f) = clash (mul-le-mul (twice Y R l) (twice Y R l)) (f .1)
   where
@@ -182,8 +184,8 @@ module _ (x r : Float) (fits-x : T (fits binary64 x)) (finite : finiteOf x ≡ t
               let h : Y * d * e ≡ c * u * e = ap (λ (z : ℕ). z * e) b in
               omega arith
 
--- ---- the laws
--- the root is not refused, and is the number that 01's steps go on with
+-- ---- the laws of the root
+-- The root is not refused, and `rootOrNan`, which 01's steps use, is its value.
 pub root-value : (x : Float) → finiteOf x ≡ true → (x ≺ 0F) ≡ false → rootOf x ≡ Value (rootOrNan x)
 unfolding rootOf rootOrNan finiteOf orNan
 root-value nan f n = absurd (false≢true f)
@@ -228,7 +230,7 @@ pub root-least : {x : Float} {p q c d : ℕ} → T (fits binary64 x) → AtLeast
     → AtLeast (rootOrNan x) c d
 root-least {x} {p} {q} {c} {d} t a P H h = least-of x p q c d t a P H h
 
--- what is not negative is not below zero
+-- A finite number with the sign + is not below 0.
 nonnegative-not-below : (x : Float) → finiteOf x ≡ true → negative x ≡ false → (x ≺ 0F) ≡ false
 unfolding finiteOf
 nonnegative-not-below nan f n = absurd (false≢true f)
@@ -239,7 +241,7 @@ nonnegative-not-below (fin s (suc m) e) f n = some-below s m e ∙ n
 pub least-not-below : {x : Float} {p q : ℕ} → AtLeast x p q → (x ≺ 0F) ≡ false
 least-not-below {x} a = nonnegative-not-below x (a .is-finite) (a .not-negative)
 
--- the root of a number that is not negative is not negative
+-- The root of a finite f64 with the sign + is finite and has the sign +.
 zero-or-more : (x : Float) → T (fits binary64 x) → finiteOf x ≡ true → negative x ≡ false → AtLeast (rootOrNan x) 0 1
 unfolding rootOf rootOrNan finiteOf orNan
 zero-or-more nan t f n = absurd (false≢true f)

@@ -1,6 +1,7 @@
--- Rounding keeps a bound that is itself an f64: where a / c is at most p / q, the f64 that a / c rounds to is finite and at most p / q
--- (`round-most`), and likewise from below (`round-least`). By `round-mono` of the library, rounding keeps the order, and the bound p / q
--- rounds to itself.
+-- Rounding keeps a bound p / q that is itself an f64. If a / c is at most p / q, then a / c with either sign rounds to
+-- a finite f64 whose magnitude is at most p / q (`round-most`). If a / c is at least p / q and rounds to a finite f64,
+-- then that f64 is at least p / q (`round-least`). The reason is that rounding keeps the order (`round-mono` of the
+-- library), and p / q rounds to itself.
 use mathlib.Core.Path.{_≡_, refl, sym, ap, _∙_, subst}
 use mathlib.Core.Bool.{Bool, true, false, not, _&&_, _||_, cond, true≢false, false≢true}
 use Prim.Native.Nat.{ℕ, zero, suc, _+_, _*_, _^_, _≤_, _<_}
@@ -15,7 +16,8 @@ use Rattle.float64.specs.Value.{finiteOf}
 use Rattle.float64.specs.Nearness.{negative}
 use Rattle.bound_laws.specs.Bounds.{Representable, AtMost, AtLeast}
 
--- ---- rounding treats both signs alike
+-- ---- rounding of either sign
+-- Rounding with the sign − gives the negated result of rounding with the sign + (`round-signed`).
 abbrev signed : Bool → Float → Float
 signed false x = x
 signed true x = neg x
@@ -42,7 +44,8 @@ round-signed s a c =
     let k = drop 53 (a * 2 ^ 1074) c in
     round-is binary64 s a c ∙ units-signed binary64 s q k ∙ ap (signed s) (sym (round-is binary64 false a c))
 
--- ---- what `round` gives for the sign + is a finite number with that sign, or +∞
+-- ---- results of `round` for the sign +
+-- The result is a finite number with the sign +, or +∞.
 abbrev Nonnegative : Float → Type 0
 Nonnegative nan = ⊥
 Nonnegative (inf s) = s ≡ false
@@ -62,7 +65,9 @@ round-nonnegative a c =
     let u = units-nonnegative binary64 (kept 53 (a * 2 ^ 1074) c) (drop 53 (a * 2 ^ 1074) c) in
     subst Nonnegative (sym (round-is binary64 false a c)) u
 
--- ---- the order of two such numbers, as an inequality of fractions
+-- ---- the order of two numbers as an inequality of fractions
+-- Let x be a finite number with the sign +, or +∞, and let y have the value p / q. If x ≤ y, then x is finite and at
+-- most p / q (`below-value`). If y ≤ x and x is finite, then x is at least p / q (`above-value`).
 lt-or-eq : (a b : ℕ) → T (ltb a b || (eqb a b && true)) → a ≤ b
 lt-or-eq a b t = go (ltb a b) (ltb→lt a b) t
   where
@@ -98,7 +103,7 @@ above-value (fin false m e) (fin false n d) p q f P v t =
     let l = lt-or-eq (n * up d * down e) (m * up e * down d) t in
     (refl, through p (n * up d) (m * up e) q (down d) (down e) (down-pos d) (le-of-eq (sym (v .1))) l)
 
--- ---- the two laws
+-- ---- the two laws of rounding
 signed-most : (s : Bool) (x : Float) (p q : ℕ) → (finiteOf x ≡ true) × (num x * q ≤ p * den x)
     → (finiteOf (signed s x) ≡ true) × (num (signed s x) * q ≤ p * den (signed s x))
 unfolding neg finiteOf
@@ -122,7 +127,7 @@ round-least {p} {q} a c C H f h =
     let g = above-value (round binary64 false a c) (round binary64 false p q) p q f (round-nonnegative a c) (H .exact) t in
     record { divisor = H .divisor; is-finite = f; not-negative = g .0; at-least = g .1 }
 
--- rounding with the other sign gives the negated number
+-- Rounding with the other sign gives the negated number (`round-neg`).
 pub neg-neg : (x : Float) → neg (neg x) ≡ x
 unfolding neg
 neg-neg nan = refl
@@ -135,7 +140,7 @@ pub round-neg : (s : Bool) (a c : ℕ) → round binary64 (not s) a c ≡ neg (r
 round-neg false a c = round-signed true a c
 round-neg true a c = sym (ap neg (round-signed true a c) ∙ neg-neg (round binary64 false a c))
 
--- what `round` gives for the sign − is negative
+-- The result of `round` for the sign − has the sign − (`round-negative`).
 neg-nonnegative : (x : Float) → Nonnegative x → negative (neg x) ≡ true
 unfolding neg
 neg-nonnegative nan P = absurd P

@@ -1,5 +1,6 @@
--- The bounds that follow from the components of two positions being at most 2^40 in magnitude: of q, h and hh; then those of s, from the
--- radii and the chord; and those of the wanted time, from mu, s and the time. One lemma for each step of 01, by the operations' bounds.
+-- Bounds of q, h and hh, if the components of both positions are at most 2^40 in magnitude. Bounds of s, from those of
+-- the radii and the chord. Bounds of the wanted time, from those of mu, s and the time. There is one lemma for each
+-- step of 01, and it follows from the bounds of the operations.
 use Prim.Native.Nat.{ℕ, _+_, _*_, _^_, _≤_}
 use native.Mathlib.Omega.{arith}
 use lib.Dec.{lit<, lit≤}
@@ -17,7 +18,7 @@ use Rattle.bound_laws.proofs.Comparisons.{two-most, two-least}
 zero-representable : Representable 0 1
 zero-representable = dyadic 0 0 (lit< tt) (lit≤ tt)
 
--- ---- q of a vector whose components are at most a
+-- ---- q of a vector whose components are at most a in magnitude
 pub norm-within : (v : Vector) (a : ℕ) → VectorAtMost v a 1 → Representable (a * a) 1 → Representable (2 * (a * a)) 1
     → Representable (4 * (a * a)) 1 → Within (normSquared v) 0 1 (4 * (a * a)) 1
 unfolding normSquared
@@ -84,7 +85,7 @@ semiperimeter-within r1 r2 c R1 R2 C =
     let m′ = div-least b′ two-most two-least (lit< tt) (lit< tt) (dyadic 1 0 (lit< tt) (lit≤ tt)) (m .is-finite) (lit≤ tt) in
     record { least = m′; most = m }
 
--- ---- T*
+-- ---- the wanted time T*
 pub operand-within : (mu s : Float) → Within mu 1 1 (2 ^ 60) 1 → Within s 1 1 (2 ^ 42) 1
     → Within (wantedOperand mu s) 1 (2 ^ 125) (2 ^ 61) 1
 operand-within mu s M S =

@@ -1,5 +1,7 @@
--- Operations on a negated number: each product, quotient or sum with −x is the negated one, or the difference. By the equations of
--- Operations.antt: an operation rounds the exact result, and rounding treats both signs alike.
+-- Operations on negated numbers. A product with one negated factor, or a quotient with a negated dividend, is the
+-- negated result (`neg-mul`, `mul-neg`, `neg-div`). Two negated factors have the same product as before
+-- (`neg-mul-neg`). These follow from the equations of Operations.antt: an operation rounds the exact result, and
+-- rounding treats both signs alike.
 use mathlib.Core.Path.{_≡_, refl, sym, ap, _∙_}
 use mathlib.Core.Bool.{Bool, true, false, not}
 use Prim.Native.Nat.{ℕ, _*_, _<_}
@@ -57,7 +59,7 @@ module _ (x y : Float) (f : finiteOf x ≡ true) (g : finiteOf y ≡ true) where
 pub neg-mul-neg : (x y : Float) → finiteOf x ≡ true → finiteOf y ≡ true → neg x ⊗ neg y ≡ x ⊗ y
 neg-mul-neg x y f g = neg-mul x (neg y) f (neg-finite y ∙ g) ∙ ap neg (mul-neg x y f g) ∙ neg-neg (x ⊗ y)
 
--- x − (−y) is x + y, and x + (−y) is x − y
+-- x − (−y) is x + y, and x + (−y) is x − y.
 pub sub-neg : (x y : Float) → x ⊖ neg y ≡ x ⊕ y
 sub-neg x y = sub-is x (neg y) ∙ ap (λ (z : Float). x ⊕ z) (neg-neg y)
 

@@ -1,4 +1,5 @@
--- Bounds of f64s by fractions of whole numbers. Definitions only; proofs/ shows what they become under each f64 operation.
+-- Bounds of f64s by fractions of whole numbers. Definitions only; the lemmas in proofs/ give the bounds of the result
+-- of each f64 operation.
 use mathlib.Core.Path.{_≡_}
 use mathlib.Core.Bool.{true, false}
 use Prim.Native.Nat.{ℕ, _*_, _≤_, _<_}
@@ -10,38 +11,38 @@ use Rattle.float64.specs.Value.{finiteOf}
 use Rattle.float64.specs.Nearness.{negative}
 use Rattle.float64.specs.declared.Vector.{Vector}
 
--- the fraction p / q is an f64: rounding does not change it
+-- The fraction p / q is an f64: rounding does not change it.
 pub record Representable (p q : ℕ) : Type 0 where
   pub divisor : 0 < q
   pub exact : HasValue (round binary64 false p q) false p q
 
--- x is a finite f64, and |x| ≤ p / q
+-- x is a finite f64, and |x| ≤ p / q.
 pub record AtMost (x : Float) (p q : ℕ) : Type 0 where
   pub divisor : 0 < q
   pub is-f64 : T (fits binary64 x)
   pub is-finite : finiteOf x ≡ true
   pub at-most : num x * q ≤ p * den x
 
--- x is finite, its sign is +, and p / q ≤ x
+-- x is finite, its sign is +, and p / q ≤ x.
 pub record AtLeast (x : Float) (p q : ℕ) : Type 0 where
   pub divisor : 0 < q
   pub is-finite : finiteOf x ≡ true
   pub not-negative : negative x ≡ false
   pub at-least : p * den x ≤ num x * q
 
--- x is a finite f64, and x ≤ p / q: a negative x is not above any such fraction
+-- x is a finite f64, and x ≤ p / q. This is true of every finite f64 whose sign is −.
 pub record NotAbove (x : Float) (p q : ℕ) : Type 0 where
   pub divisor : 0 < q
   pub is-f64 : T (fits binary64 x)
   pub is-finite : finiteOf x ≡ true
   pub not-above : negative x ≡ false → num x * q ≤ p * den x
 
--- x is a finite f64, and p / q ≤ x ≤ P / Q
+-- x is a finite f64, and p / q ≤ x ≤ P / Q.
 pub record Within (x : Float) (p q P Q : ℕ) : Type 0 where
   pub least : AtLeast x p q
   pub most : AtMost x P Q
 
--- every component of v is a finite f64 with a magnitude of at most p / q
+-- Every component of v is a finite f64 with a magnitude of at most p / q.
 pub record VectorAtMost (v : Vector) (p q : ℕ) : Type 0 where
   pub x : AtMost (v .x) p q
   pub y : AtMost (v .y) p q

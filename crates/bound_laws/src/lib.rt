@@ -1,2 +1,3 @@
-// Bounds of f64s through the operations, and the bounds of every question that no entrance check refuses: its wanted time is finite
-// and above 0. Definitions and theorems; there is no code here.
+// Bounds of the results of f64 operations, and the bounds of every question that no entrance check
+// refuses. For example, its wanted time is finite and above 0. This crate has definitions and
+// theorems, and no code.
