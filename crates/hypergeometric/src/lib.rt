@@ -1,5 +1,5 @@
-// The hypergeometric function of the time equation (01, Time at one place, steps 2 to 5): the angle
-// halved three times, the series there, and the way back.
+// The hypergeometric function of the time equation (01, Time at one place, steps 2 to 5). The angle
+// is halved three times, the series is evaluated there, and then the three halvings are undone.
 ghost use mathlib.Core.Path.{_≡_};
 ghost use Rattle.hypergeometric.specs.Steps.{yOf, etaOf, c1Of, nextC, halfAnglesOf, s4Of, backOf, gOf};
 
@@ -12,7 +12,7 @@ pub use results::HalfAngles;
 pub use results::StepValue;
 use series::series;
 
-// The root y of 1 - L^2 u.
+// Returns y, the root of 1 - L^2 u.
 pub fn y_at(l: f64, u: f64) -> Root
     ensures { λ r. ⌜ r ≡ yOf l u ⌝ }
 {
@@ -37,7 +37,8 @@ fn next_c(w: f64) -> f64
     (1.0 + w) / 2.0
 }
 
-// Steps 2 and 3: the angle halved three times, at the place x with u = 1 - x^2.
+// Steps 2 and 3: returns η and the results of halving the angle three times, at the place x. The
+// caller passes u = 1 - x^2. The result is void if a root is refused.
 pub fn half_angles(l: f64, x: f64, u: f64) -> HalfAngles
     ensures { λ r. ⌜ r ≡ halfAnglesOf l x u ⌝ }
 {
@@ -68,14 +69,14 @@ pub fn half_angles(l: f64, x: f64, u: f64) -> HalfAngles
     })
 }
 
-// The series' argument.
+// Returns S4, the argument of the series.
 fn fourth_s(w3: f64) -> f64
     ensures { λ r. ⌜ r ≡ s4Of w3 ⌝ }
 {
     (1.0 - w3) / 2.0
 }
 
-// One halving undone.
+// Undoes one halving. The result is void if a divisor is zero.
 fn back(g: f64, w: f64, c: f64) -> StepValue
     ensures { λ r. ⌜ r ≡ backOf g w c ⌝ }
 {
@@ -89,7 +90,8 @@ fn back(g: f64, w: f64, c: f64) -> StepValue
     StepValue::Number((3.0 + g / w) / divisor)
 }
 
-// Steps 4 and 5: G, that is the series, and the three halvings undone.
+// Steps 4 and 5: returns G, which is the series with the three halvings undone. The result is void
+// if a divisor is zero.
 pub fn g_at(angles: Angles) -> StepValue
     ensures { λ r. ⌜ r ≡ gOf angles ⌝ }
 {

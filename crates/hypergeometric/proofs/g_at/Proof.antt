@@ -1,11 +1,12 @@
--- `g_at` meets its contract: each return is what its calls ensure, up to the division that was void.
+-- `g_at` meets its contract. Each return follows from the contracts of the calls before it. An early return is the case
+-- of a division that is void.
 use mathlib.Core.Path.{_≡_, sym}
 use Rattle.hypergeometric.specs.Steps.{gOf, then, backOf}
 use borrow.Author.Needs.{needs}
 use Rattle.hypergeometric.proofs.g_at.Statement.{statement}
 use Rattle.hypergeometric.proofs.g_at.Tie as tie
 
--- what is left of steps 4 and 5 once the halving 3 or 2 is undone
+-- `gOf` is equal to the result of undoing halving 3 or 2, followed by the halvings that remain (`to-g3`, `to-g2`).
 to-g3 : (c : tie.After-back)
     → let angles = c .before .before .before .args .angles in
     gOf angles ≡ then (c .back .result) (λ g3. then (backOf g3 (angles .w2) (angles .c2)) (λ g2. backOf g2 (angles .w1) (angles .c1)))

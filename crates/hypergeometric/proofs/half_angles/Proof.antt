@@ -1,4 +1,5 @@
--- `half_angles` meets its contract: each return is what its calls ensure, up to the root that was refused.
+-- `half_angles` meets its contract. Each return follows from the contracts of the calls before it. An early return is
+-- the case of a root that is refused.
 use mathlib.Core.Path.{_≡_, sym}
 use lib.Ieee.{Float}
 use Rattle.float64.specs.Root.{rootOf}
@@ -9,7 +10,8 @@ use borrow.Author.Needs.{needs}
 use Rattle.hypergeometric.proofs.half_angles.Statement.{statement}
 use Rattle.hypergeometric.proofs.half_angles.Tie as tie
 
--- what is left of steps 2 and 3 once C1, C2 or C3 is known
+-- The rest of steps 2 and 3, once C1, C2 or C3 is known. `to-c1`, `to-c2` and `to-c3` show that `halfAnglesOf` is equal
+-- to that rest when the code has computed C1, C2 or C3.
 abbrev from-c3 : (η c1 w1 c2 w2 c3 : Float) → HalfAngles
 from-c3 η c1 w1 c2 w2 c3 =
     anglesAfterRoot (rootOf c3) (λ w3.
