@@ -1,5 +1,5 @@
--- Steps 1, 6 and 7 of the time at one place, and x and u (01, Time at one place); steps 2 to 5 are the hypergeometric
--- function's. Definitions only; Time.antt puts them together.
+-- Steps 1, 6 and 7 of the time at one place, and x and u (01, Time at one place). Steps 2 to 5, apart from u, are in
+-- the crate `hypergeometric`. Definitions only; Time.antt puts the steps together.
 use Prim.Native.Nat.{ℕ, _-_, _*_, _^_}
 use mathlib.Core.Bool.{Bool, not, _||_, _&&_, cond}
 use lib.Dec.{leb, ltb, eqb}
@@ -13,14 +13,16 @@ use Rattle.hypergeometric.specs.Steps.{afterRoot, dividing}
 use Rattle.hypergeometric.specs.declared.results.StepValue.{StepValue}
 use Rattle.hypergeometric.specs.declared.results.StepValue.the-variants.{Number}
 
--- how many k make a step of 1 in x, and how many lie between neighbouring stations
+-- The difference in k that makes a difference of 1 in x.
 abbrev pub unit : ℕ
 unit = 2 ^ 32
 
+-- The difference in k between neighbouring stations.
 abbrev pub stationSpacing : ℕ
 stationSpacing = 2 ^ 20
 
--- ---- 1. the ends of the range of k: -2^32 + 2^20, 2^34, and with whole revolutions 2^32 - 2^20
+-- ---- step 1: the range of k
+-- The ends are −2^32 + 2^20 and 2^34. With whole revolutions the upper end is 2^32 − 2^20.
 abbrev pub lowest : ℤ
 lowest = negℤ (pos (unit - stationSpacing))
 
@@ -30,10 +32,11 @@ highest = pos (4 * unit)
 abbrev pub highestRevolving : ℤ
 highestRevolving = pos (unit - stationSpacing)
 
--- the most whole revolutions, M in 01
+-- The largest number of whole revolutions with which a place has a time. 01 calls the number of revolutions M.
 abbrev pub mostRevolutions : ℕ
 mostRevolutions = 16
 
+-- Whether step 1 makes the place void: |L| is not below 1, there are too many revolutions, or k is outside the range.
 unfoldable pub outsideRange : Float → ℤ → ℕ → Bool
 outsideRange L k revolutions =
     not (magnitudeOf L ≺ 1F)
@@ -42,22 +45,24 @@ outsideRange L k revolutions =
     || (ltZ highest k
     || (leb 1 revolutions && ltZ highestRevolving k))))
 
--- x = k / 2^32; the divisor is `unit` as an f64
+-- The divisor in x = k / 2^32: `unit` as an f64.
 abbrev pub unitF : Float
 unitF = bits 0x41F0_0000_0000_0000
 
+-- x = k / 2^32.
 unfoldable pub xOf : ℤ → Float
 xOf k = float k ⊘ unitF
 
--- ---- 2. u; y and η are in the hypergeometric function's steps
+-- ---- step 2: u
+-- y and η are in the crate `hypergeometric`.
 unfoldable pub uOf : Float → Float
 uOf x = 1F ⊖ x ⊗ x
 
--- ---- 6. the time with no whole revolution
+-- ---- step 6: the time without whole revolutions
 unfoldable pub directOf : Float → Float → Float → Float
 directOf L η g = (((η ⊗ η) ⊗ η) ⊗ ((4F ⊗ g) ⊘ 3F) ⊕ (4F ⊗ L) ⊗ η) ⊘ 2F
 
--- ---- 7. for M ≥ 1 add (M·π)/(u·√u)
+-- ---- step 7: the addition of (M·π)/(u·√u) for M ≥ 1
 abbrev pub πF : Float
 πF = bits 0x4009_21FB_5444_2D18
 

@@ -16,20 +16,22 @@ use Rattle.hypergeometric.specs.declared.results.HalfAngles.the-variants.{Known
 use Rattle.flight_time.specs.declared.Place.{Place}
 use Rattle.flight_time.specs.declared.Place.the-variants.{Timed, Void}
 
--- void where a test passes, and where a step is void
+-- Void if a test is true, and the given place otherwise.
 abbrev pub voidIf : Bool → Place → Place
 voidIf true p = Void
 voidIf false p = p
 
+-- Void if a step is void. Otherwise the next steps use its number.
 abbrev pub afterStep : StepValue → (Float → Place) → Place
 afterStep (Number x) next = next x
 afterStep Void next = Void
 
+-- Void if steps 2 and 3 are void. Otherwise the next steps use the angles.
 abbrev pub afterAngles : HalfAngles → (Angles → Place) → Place
 afterAngles (Known angles) next = next angles
 afterAngles Void next = Void
 
--- the place k of a triangle with a number of whole revolutions: its time, a finite number, or void
+-- The time at the place k of a triangle, with the given number of whole revolutions. It is a finite number, or void.
 unfoldable pub timeOf : Triangle → ℤ → ℕ → Place
 timeOf t k revolutions =
     voidIf (outsideRange (t .lambda) k revolutions)
@@ -40,7 +42,8 @@ timeOf t k revolutions =
     afterStep (withRevolutions (directOf (t .lambda) (angles .eta) g) u revolutions) (λ time.
     voidIf (not (finiteOf time)) (Timed time)))))
 
--- the bits of a time; where there is none, all ones, a choice of ours: a NaN's pattern, and no time of `timeOf` is a NaN
+-- The bits of a time, or all ones if the place is void. All ones is our own choice: it is the pattern of a NaN, and no
+-- time of `timeOf` is a NaN.
 unfoldable pub placeBits : Place → ℕ
 placeBits (Timed t) = bitsOf t
 placeBits Void = 0xFFFF_FFFF_FFFF_FFFF

@@ -1,5 +1,5 @@
-// The time at one place of a triangle (01, Time at one place): the non-dimensional time of flight at
-// x = k / 2^32, or void where the steps give none.
+// The time at one place of a triangle (01, Time at one place): the non-dimensional time of flight
+// at x = k / 2^32, or void if the steps give no time.
 ghost use mathlib.Core.Path.{_≡_};
 ghost use Rattle.flight_time.specs.Steps.{outsideRange, xOf, uOf, directOf};
 ghost use Rattle.flight_time.specs.Time.{timeOf, placeBits};
@@ -11,22 +11,23 @@ use hypergeometric::HalfAngles;
 use hypergeometric::StepValue;
 use revolutions::with_revolutions;
 
-// A place has a time, a finite number, or is void.
+// The result at one place: a time, which is a finite number, or void.
 pub enum Place {
     Timed(f64),
     Void,
 }
 
 impl Place {
-    // The number of bits 400921FB54442D18.
+    // π as an f64, with the bits 400921FB54442D18.
     pub const PI: f64 = 3.141592653589793;
 
-    // How many k make a step of 1 in x, 2^32, and how many lie between neighbouring stations, 2^20.
+    // The difference in k that makes a difference of 1 in x: 2^32.
     pub const UNIT: f64 = 4294967296.0;
 
+    // The difference in k between neighbouring stations: 2^20.
     pub const STATION_SPACING: i64 = 1048576;
 
-    // The ends of the range of k, the last with whole revolutions.
+    // The ends of the range of k. The last constant is the upper end with whole revolutions.
     pub const LOWEST: i64 = -4293918720;
 
     pub const HIGHEST: i64 = 17179869184;
@@ -36,7 +37,8 @@ impl Place {
     pub const MOST_REVOLUTIONS: u16 = 16;
 }
 
-// The time at the place k of a triangle, with a number of whole revolutions (M in 01).
+// Returns the time at the place k of a triangle, with the given number of whole revolutions (M in
+// 01).
 pub fn time_at(triangle: Triangle, k: i64, revolutions: u16) -> Place
     ensures { λ r. ⌜ r ≡ timeOf triangle k revolutions ⌝ }
 {
@@ -62,7 +64,8 @@ pub fn time_at(triangle: Triangle, k: i64, revolutions: u16) -> Place
     }
 }
 
-// The bits of a place's time, and all ones where it is void: a NaN's pattern, and `time_at` gives none.
+// Returns the bits of a place's time, or all ones if the place is void. All ones is the pattern of
+// a NaN, and `time_at` never returns a NaN as a time.
 pub fn place_bits(place: Place) -> u64
     ensures { λ r. ⌜ r ≡ placeBits place ⌝ }
 {
@@ -72,7 +75,8 @@ pub fn place_bits(place: Place) -> u64
     }
 }
 
-// Step 1: whether the place is void by its range.
+// Step 1: reports whether the place is void because L, k or the number of revolutions is outside
+// its range.
 fn is_outside(l: f64, k: i64, revolutions: u16) -> bool
     ensures { λ r. ⌜ r ≡ outsideRange l k revolutions ⌝ }
 {
@@ -82,19 +86,21 @@ fn is_outside(l: f64, k: i64, revolutions: u16) -> bool
                 | ((k > Place::HIGHEST) | ((revolutions >= 1) & (k > Place::HIGHEST_REVOLVING)))))
 }
 
+// Returns x = k / 2^32. The code first rounds k to the nearest f64.
 pub fn x_at(k: i64) -> f64
     ensures { λ r. ⌜ r ≡ xOf k ⌝ }
 {
     std::num::nearest_i64_to_f64(k) / Place::UNIT
 }
 
+// Returns u = 1 - x^2.
 pub fn u_at(x: f64) -> f64
     ensures { λ r. ⌜ r ≡ uOf x ⌝ }
 {
     1.0 - x * x
 }
 
-// Step 6: the time with no whole revolution.
+// Step 6: returns the time without whole revolutions.
 fn direct(l: f64, eta: f64, g: f64) -> f64
     ensures { λ r. ⌜ r ≡ directOf l eta g ⌝ }
 {

@@ -1,4 +1,4 @@
--- `direct` meets its contract: the code's operations are the definition's.
+-- `direct` meets its contract. The code performs the same operations as the definition.
 use mathlib.Core.Path.{refl}
 use Rattle.flight_time.specs.Steps.{directOf}
 use Rattle.flight_time.proofs.direct.Statement.{statement}

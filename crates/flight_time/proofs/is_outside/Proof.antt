@@ -1,4 +1,5 @@
--- `is_outside` meets its contract: the code's tests are the definition's, and a signed number is read back from its bits.
+-- `is_outside` meets its contract. The code makes the same tests as the definition, and reading the signed number k
+-- back from its bits gives k.
 use mir.Facts.{toZ-ofZ}
 use Rattle.flight_time.specs.Steps.{outsideRange}
 use borrow.Author.Needs.{needs}

@@ -1,4 +1,4 @@
--- `place_bits` meets its contract: by the cases of the place.
+-- `place_bits` meets its contract. The two returns are the two cases of the place: timed, or void.
 use mathlib.Core.Path.{sym}
 use Rattle.flight_time.specs.Time.{placeBits}
 use borrow.Author.Needs.{needs}

@@ -1,4 +1,5 @@
--- `time_at` meets its contract: each return is what its calls ensure, up to the step that was void.
+-- `time_at` meets its contract. Each return follows from the contracts of the calls before it. An early return is the
+-- case of a step that is void.
 use Prim.Native.Nat.{ℕ}
 use mathlib.Core.Path.{_≡_, sym}
 use mathlib.Core.Bool.{not}
@@ -16,7 +17,8 @@ use borrow.Author.Needs.{needs}
 use Rattle.flight_time.proofs.time_at.Statement.{statement}
 use Rattle.flight_time.proofs.time_at.Tie as tie
 
--- what two calls ensure, of k itself: what the machine reads back from the bits of k is k
+-- The contracts of `is_outside` and `x_at` speak about the number that the machine reads back from the bits of k. That
+-- number is k, so `out` and `x-is` restate the two contracts for k itself.
 out : (c : tie.After-is-outside)
     → let a = c .before .args in
     c .is-outside .result ≡ outsideRange (a .triangle .lambda) (a .k) (a .revolutions)
@@ -25,7 +27,10 @@ out c = rw (toZ-ofZ (c .before .fits .k)) at (c .is-outside .ensures)
 x-is : (c : tie.After-x-at) → c .x-at .result ≡ xOf (c .before .before .before .args .k)
 x-is c = rw (toZ-ofZ (c .before .before .before .fits .k)) at (c .x-at .ensures)
 
--- ---- what is left of the steps once the angles, G or the time are worked out
+-- ---- the rest of the steps
+-- `from-angles`, `from-g` and `from-time` are the steps that remain once the angles, G or the time are known.
+-- `to-angles`, `to-g` and `to-time` show that `timeOf` is equal to the result of the call that computes the angles, G
+-- or the time, followed by those steps.
 abbrev from-time : Float → Place
 from-time time = voidIf (not (finiteOf time)) (Timed time)
 

@@ -1,4 +1,4 @@
--- `u_at` meets its contract: the code's operations are the definition's.
+-- `u_at` meets its contract. The code performs the same operations as the definition.
 use mathlib.Core.Path.{refl}
 use Rattle.flight_time.specs.Steps.{uOf}
 use Rattle.flight_time.proofs.u_at.Statement.{statement}

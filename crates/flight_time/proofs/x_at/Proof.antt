@@ -1,4 +1,4 @@
--- `x_at` meets its contract, by what the conversion ensures.
+-- `x_at` meets its contract. This follows from the contract of the conversion to f64.
 use mathlib.Core.Path.{refl}
 use mir.Facts.{toZ-ofZ}
 use Rattle.flight_time.specs.Steps.{xOf}

@@ -1,5 +1,5 @@
--- `revolutions::with_revolutions` meets its contract: each return is a case of the revolutions, of the root and of the
--- divisor.
+-- `revolutions::with_revolutions` meets its contract. The four returns are the four cases: no whole revolutions, a
+-- refused root, a zero divisor, and none of these.
 use mathlib.Core.Path.{_≡_, sym}
 use lib.IntN.{pos}
 use Rattle.float64.specs.Notation.{_⊕_, _⊗_, _⊘_, float}
@@ -11,7 +11,7 @@ use borrow.Author.Needs.{needs}
 use Rattle.flight_time.proofs.revolutions.with_revolutions.Statement.{statement}
 use Rattle.flight_time.proofs.revolutions.with_revolutions.Tie as tie
 
--- what is left of step 7 once the root of u is known
+-- The rest of step 7, once the root of u is known.
 to-divisor : (c : tie.After-root)
     → let a = c .before .before .before .before .args in
     let divisor = a .u ⊗ c .root .given .0 .0 in
