@@ -1,5 +1,6 @@
--- Questions that the prover judges by computing, beside those of 01's worked cases: one table of bytes, the answer buffer's size and the
--- number given (0 where the question is accepted), one statement over all of it.
+-- Questions that the prover judges by computation, in addition to 01's worked cases. Each row of the table has the
+-- bytes of a question, the answer buffer's size, and the number given, which is 0 if the question is accepted. One
+-- statement covers the whole table (`each-row-holds`).
 use mathlib.Core.Path.{_≡_, refl}
 use mathlib.Core.List.{List, [], _∷_, _++_, map}
 use Prim.Native.Nat.{ℕ, _-_}
@@ -19,7 +20,8 @@ use Rattle.closed_case_laws.specs.Given.{HALF, ONE, TWO, flat, asked}
 use Rattle.entrance.specs.declared.Judged.{Judged}
 use Rattle.entrance.specs.declared.Judged.the-variants.{Refused, Accepted}
 
--- ---- further numbers, by their bits: 2 ^ -11 is TINY, 2 ^ 40 is P40, and P40-next is the next f64 above it
+-- ---- further numbers, as bits
+-- TINY is 2 ^ -11, P20 is 2 ^ 20 and so on, and P40-next is the next f64 above 2 ^ 40.
 abbrev TINY : ℕ
 TINY = 0x3F40_0000_0000_0000
 
@@ -47,7 +49,7 @@ INFINITY = 0x7FF0_0000_0000_0000
 abbrev NAN : ℕ
 NAN = 0x7FF8_0000_0000_0000
 
--- 01's worked question, and its like with other positions, mu, time and M
+-- 01's worked question, and the same question with other positions, mu, time or M.
 worked : List ℕ
 worked = asked 7 1 0 0 (flat ONE 0) (flat 0 ONE) ONE ONE
 

@@ -1,4 +1,5 @@
--- Roots that the prover computes, beside those of 01's worked cases: one table, one statement over all of it.
+-- Roots that the prover computes, in addition to 01's worked cases. One statement covers the whole table
+-- (`each-row-holds`).
 use mathlib.Core.Path.{_≡_, refl}
 use mathlib.Core.List.{List, [], _∷_, map}
 use Prim.Native.Nat.{ℕ}
@@ -8,7 +9,7 @@ use Rattle.float64.specs.Root.{rootOf}
 use Rattle.float64.specs.declared.Root.{Root}
 use Rattle.float64.specs.declared.Root.the-variants.{Value, Refused}
 
--- an operand's bits, and its root
+-- The bits of an operand, and its root.
 pub record Row : Type 0 where
   pub operand : ℕ
   pub root : Root
@@ -17,7 +18,8 @@ infix 1 _⇒_
 pub _⇒_ : ℕ → Root → Row
 b ⇒ r = record { operand = b; root = r }
 
--- the least f64 and the greatest; -0 and +0; the infinities and a NaN; the greatest subnormal and the least normal number
+-- The operands are the least and the greatest positive finite f64, -0 and +0, both infinities, a NaN, the greatest
+-- positive subnormal number and the least positive normal number.
 pub rows : List Row
 rows =
     (0x0000_0000_0000_0001 ⇒ Value (bits 0x1E60_0000_0000_0000))

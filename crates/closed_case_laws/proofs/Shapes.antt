@@ -1,4 +1,5 @@
--- Shapes that the prover computes: which positions span a plane, one whole triangle, and the sign of L at its end.
+-- Shapes that the prover computes: which positions span a plane (`each-row-holds`), the sides of one triangle
+-- (`right-triangle`), and the sign of L if L is zero (`long-way-ends`, `short-way-ends`).
 use mathlib.Core.Path.{_≡_, refl}
 use mathlib.Core.Bool.{Bool, true, false}
 use mathlib.Core.List.{List, [], _∷_, map}
@@ -15,13 +16,14 @@ use Rattle.geometry.specs.Conditions.{noPlane}
 abbrev at : ℕ → ℕ → ℕ → Vector
 at x y z = record { x = float (pos x); y = float (pos y); z = float (pos z) }
 
--- two positions, and whether they span no plane
+-- Two positions, and whether they span no plane.
 pub record Row : Type 0 where
   pub first : Vector
   pub second : Vector
   pub none : Bool
 
--- at a right angle; one twice the other; the same position twice; the origin, where both sides of the comparison are 0
+-- The rows are two positions at a right angle, one position and its double, the same position twice, and a position at
+-- the origin. In the last row both sides of the comparison are 0.
 pub rows : List Row
 rows =
     record { first = at 1 0 0; second = at 0 1 0; none = false }
@@ -42,7 +44,7 @@ pub right-handed : cross (at 1 0 0) (at 0 1 0) ≡ at 0 0 1
 unfolding cross sub mul ofInt
 right-handed = refl
 
--- the sides 3, 4 and 5
+-- The radii, the chord and the semiperimeter of a triangle with the sides 3, 4 and 5.
 pub sides : List Float
 sides = let g = shapeOf (at 3 0 0) (at 0 4 0) false in g .radius1 ∷ g .radius2 ∷ g .triangle .chord ∷ g .triangle .semiperimeter ∷ []
 
@@ -50,12 +52,12 @@ pub right-triangle : sides ≡ float (pos 3) ∷ float (pos 4) ∷ float (pos 5)
 unfolding sides shapeOf triangleOf semiperimeterOf normSquared difference orNan rootOrNan rootOf add sub mul div ofBits ofInt
 right-triangle = refl
 
--- c/s of 1 and of 2, the long way: -0
+-- If c/s is 1 or 2, L is -0 for the long way.
 pub long-way-ends : (lambdaOf 1F 1F true ≡ bits 0x8000_0000_0000_0000) × (lambdaOf 2F 1F true ≡ bits 0x8000_0000_0000_0000)
 unfolding lambdaOf atLeastZero orNan rootOrNan rootOf sub div neg lt ofBits
 long-way-ends = (refl, refl)
 
--- the short way: +0
+-- If c/s is 1 or 2, L is +0 for the short way.
 pub short-way-ends : (lambdaOf 1F 1F false ≡ 0F) × (lambdaOf 2F 1F false ≡ 0F)
 unfolding lambdaOf atLeastZero orNan rootOrNan rootOf sub div lt ofBits
 short-way-ends = (refl, refl)

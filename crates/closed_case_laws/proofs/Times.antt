@@ -1,4 +1,5 @@
--- Times that the prover computes, beside those of 01's worked cases: one table of L, k, M and the place, one statement over all of it.
+-- Times that the prover computes, in addition to 01's worked cases. Each row of the table has L, k, M and the place.
+-- One statement covers the whole table (`each-row-holds`).
 use mathlib.Core.Path.{_≡_, refl}
 use mathlib.Core.List.{List, [], _∷_, map}
 use Prim.Native.Nat.{ℕ, _+_, _-_, _^_}
@@ -23,16 +24,17 @@ pub record Row : Type 0 where
 pub row : ℕ → ℤ → ℕ → Place → Row
 row L k m p = record { L = L; k = k; m = m; place = p }
 
--- the ends of the ranges: -2^32 + 2^20 and the k below it, and so on
+-- The lower end of the range of k, -2^32 + 2^20, and the place below it.
 abbrev pub low : ℤ
 low = negℤ (pos (2 ^ 32 - 2 ^ 20))
 
 abbrev pub too-low : ℤ
 too-low = negℤ (pos (2 ^ 32 - 2 ^ 20 + 1))
 
--- timed: the f64 nearest to π/2 at L = 0 and x = 0 (also at L = -0), L = 0.6 at x = 0, and M = 1; two times whose last digits tell
--- sixteen terms from fifteen and from seventeen; void: by a refused root, by a zero divisor, by L (a NaN too), by M, and by k just past
--- each end
+-- The first rows are timed: the f64 nearest to π/2 at L = 0 and x = 0, the same at L = -0, then L = 0.6 at x = 0, and
+-- L = 0 at x = 0 with M = 1. Next are two times whose last digits show that the series has sixteen terms, and not
+-- fifteen or seventeen. The other rows are void: by a refused root, by a zero divisor, by L (once by a NaN), by M, and
+-- by a k just past each end.
 pub rows : List Row
 rows =
     row 0 (pos 0) 0 (Timed (bits 0x3FF9_21FB_5444_2D18))
@@ -56,11 +58,13 @@ unfolding rows row withLambda timeOf outsideRange xOf uOf yOf etaOf c1Of nextC h
     gOf directOf withRevolutions magnitudeOf finiteOf rootOf add sub mul div neg lt eq ofBits ofInt
 each-row-holds = refl
 
--- at the ends themselves, and with sixteen revolutions, there is a time
+-- 1 for a timed place, 0 for a void place.
 abbrev pub timed : Place → ℕ
 timed (Timed t) = 1
 timed Void = 0
 
+-- The ends of the ranges of k, without whole revolutions and with sixteen. All of them have a time (`ends-are-timed`).
+-- The `Void` in these rows is a placeholder that the statement does not use.
 pub ends : List Row
 ends = row 0 low 0 Void ∷ row 0 (pos (2 ^ 34)) 0 Void ∷ row 0 (pos (2 ^ 32 - 2 ^ 20)) 16 Void ∷ row 0 low 16 Void ∷ []
 

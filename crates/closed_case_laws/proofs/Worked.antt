@@ -1,5 +1,5 @@
--- 01's worked cases, one statement over the whole table, computed by the prover (`each-row-holds`); and 01's worked question is past the
--- entrance checks (`worked-past`).
+-- The prover computes 01's worked cases, in one statement over the whole table (`each-row-holds`). 01's worked question
+-- passes the entrance checks (`worked-past`).
 use mathlib.Core.Path.{_≡_, refl}
 use mathlib.Core.List.{List, map}
 use Prim.Native.Nat.{ℕ}
@@ -32,7 +32,8 @@ unfolding rows resultOf withLambda like asked solveOf judgeOf checks firstOf mal
     backOf gOf directOf withRevolutions add sub mul div round units odd size neg lt le eq ofBits ofInt toBits
 each-row-holds = refl
 
--- a question past the entrance checks: 01's worked one, so that what is shown of such questions is shown of some
+-- 01's worked question. It passes the entrance checks, so the theorems about questions that pass them do not hold
+-- vacuously.
 pub worked : List ℕ
 worked = like 7 1 (flat ONE 0) (flat 0 ONE) ONE
 

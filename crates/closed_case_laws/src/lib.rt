@@ -1,2 +1,2 @@
-// 01's worked cases, and cases at the corners, that the prover computes from the definitions alone.
-// Tables and theorems; there is no code here.
+// 01's worked cases and further corner cases, which the prover computes from the definitions alone.
+// This crate has tables and theorems, and no code.
