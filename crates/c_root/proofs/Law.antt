@@ -1,5 +1,6 @@
--- What the bits of `rootBitsOf` stand for: the root of the f64 with the bits b (`root-bits-law`), and all ones exactly
--- where that root is refused (`ones-refused`).
+-- What the bits of `rootBitsOf` represent: the root of the f64 with the bits b, which is correct in the sense of
+-- `IsRoot` (`root-bits-law`). If the bits are all ones, the root is refused (`ones-refused`). The converse holds by
+-- definition.
 use mathlib.Core.Path.{_≡_, refl, sym, ap, _∙_}
 use mathlib.Core.Bool.{true, true≢false}
 use Prim.Native.Nat.{ℕ}
@@ -18,7 +19,7 @@ use Rattle.c_root.specs.RootBits.{answerBits, rootBitsOf}
 pub root-bits-law : (b : ℕ) → IsRoot (bits b) (rootOf (bits b))
 root-bits-law b = square-root-law (bits b) (ofBits-fits binary64 b) (rootOf (bits b)) refl
 
--- all ones are a NaN's, and no root is a NaN
+-- All ones is the pattern of a NaN, and no root is a NaN.
 ones-not-finite : true ≡ finiteOf (bits 0xFFFF_FFFF_FFFF_FFFF) → ⊥
 unfolding ofBits finiteOf
 ones-not-finite e = true≢false e

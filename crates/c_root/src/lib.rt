@@ -1,9 +1,10 @@
-// The square root from 64 bits to 64 bits, for programs in other languages and for comparisons.
+// The square root from 64 bits to 64 bits, for programs in other languages and for comparisons with
+// the reference program.
 ghost use mathlib.Core.Path.{_≡_};
 ghost use Rattle.c_root.specs.RootBits.{rootBitsOf};
 use float64::Root;
 
-// The bits of the root of the f64 with the bits b, or all ones where the root is refused.
+// Returns the bits of the root of the f64 with the bits b, or all ones if the root is refused.
 #[no_mangle]
 pub extern "C" fn lambert_root_bits(b: u64) -> u64
     ensures { λ r. ⌜ r ≡ rootBitsOf b ⌝ }

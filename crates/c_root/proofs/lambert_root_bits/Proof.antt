@@ -1,4 +1,4 @@
--- `lambert_root_bits` meets its contract: what its three calls ensure, put together.
+-- `lambert_root_bits` meets its contract. This follows from the contracts of the three functions that it calls.
 use borrow.Author.Needs.{needs}
 use mathlib.Core.Path.{sym}
 use Rattle.c_root.specs.RootBits.{answerBits, rootBitsOf}
