@@ -5,9 +5,10 @@ use Rattle.float64.specs.Notation.{_⊖_, _⊗_, bits, 0F, 1F}
 use Rattle.geometry.specs.declared.Triangle.{Triangle}
 use Rattle.flight_time.specs.Time.{timeOf, placeBits}
 
--- a triangle with the given L: c/s is 1 − L², and the time asks nothing of ρ and σ
+-- A triangle whose L has the bits b. Its c/s is 1 − L². ρ and σ are arbitrary, because the time does not depend on them.
 unfoldable pub withLambda : ℕ → Triangle
 withLambda b = record { lambda = bits b; semiperimeter = 1F; chord = 1F ⊖ bits b ⊗ bits b; rho = 0F; sigma = 1F }
 
+-- The bits of the time at the place k, for the L with the bits b, or all ones if the place is void.
 unfoldable pub timeBitsOf : ℕ → ℤ → ℕ → ℕ
 timeBitsOf b k revolutions = placeBits (timeOf (withLambda b) k revolutions)

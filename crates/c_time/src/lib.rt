@@ -1,5 +1,5 @@
-// The time at a place and the crossings of a sweep, from 64 bits to 64 bits, for programs in other
-// languages and for comparisons.
+// The time at a place and the number of crossings of a sweep, from 64 bits to 64 bits, for programs
+// in other languages and for comparisons with the reference program.
 ghost use mathlib.Core.Path.{_≡_};
 ghost use Rattle.c_time.specs.SweepNumber.{walkNumber, sweepNumberOf};
 ghost use Rattle.c_time.specs.TimeBits.{withLambda, timeBitsOf};
@@ -7,8 +7,8 @@ use geometry::Triangle;
 use stations::Search;
 use sweep::Walk;
 
-// A triangle with the given lambda: the chord is 1 - lambda^2 of the semiperimeter, and the time asks
-// nothing of rho and sigma.
+// Returns a triangle whose lambda has the bits b. The chord divided by the semiperimeter is
+// 1 - lambda^2. Rho and sigma are arbitrary, because the time does not depend on them.
 pub fn with_lambda(b: u64) -> Triangle
     ensures { λ r. ⌜ r ≡ withLambda b ⌝ }
 {
@@ -22,8 +22,8 @@ pub fn with_lambda(b: u64) -> Triangle
     }
 }
 
-// The bits of the time at the place k with so many whole revolutions, for the lambda with the bits b,
-// or all ones where the place is void.
+// Returns the bits of the time at the place k with the given number of whole revolutions, for the
+// lambda with the bits b, or all ones if the place is void.
 #[no_mangle]
 pub extern "C" fn lambert_time_bits(b: u64, k: i64, revolutions: u16) -> u64
     ensures { λ r. ⌜ r ≡ timeBitsOf b k revolutions ⌝ }
@@ -41,8 +41,9 @@ fn walk_number(walk: Walk) -> u64
     }
 }
 
-// How many crossings are listed for the lambda with the bits b, so many whole revolutions and the wanted
-// time with the bits w; 16 more where some station is void, or 32 more where there is a ninth crossing.
+// Returns how many crossings the sweep lists for the lambda with the bits b, the given number of
+// whole revolutions and the wanted time with the bits w. The result is 32 larger if there is a
+// ninth crossing, and otherwise 16 larger if some station is void.
 #[no_mangle]
 pub extern "C" fn lambert_sweep_number(b: u64, revolutions: u16, w: u64) -> u64
     ensures { λ r. ⌜ r ≡ sweepNumberOf b revolutions w ⌝ }

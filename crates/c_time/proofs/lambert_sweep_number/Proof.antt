@@ -1,5 +1,5 @@
--- `lambert_sweep_number` meets its contract: what its calls ensure, put together. The sum is small, since a sweep lists eight crossings
--- at most.
+-- `lambert_sweep_number` meets its contract. This follows from the contracts of the functions that it calls. The sum
+-- does not overflow, because a sweep lists at most eight crossings.
 use Prim.Native.Nat.{ℕ, _≤_, _+_}
 use mathlib.Core.Path.{_≡_, sym, ap, subst, _∙_}
 use native.Mathlib.Omega.{arith}
@@ -24,7 +24,7 @@ walk-small AllTimed = omega arith
 walk-small SomeVoid = omega arith
 walk-small NinthFound = omega arith
 
--- what `find_crossings` ensures, of the argument's bits
+-- The contract of `find_crossings`, restated for the bits that the caller passes in.
 found-is :
     (c : tie.After-find-crossings) →
     let a = c .before .before .before .args in

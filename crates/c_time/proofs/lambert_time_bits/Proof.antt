@@ -1,4 +1,4 @@
--- `lambert_time_bits` meets its contract: what its calls ensure, put together.
+-- `lambert_time_bits` meets its contract. This follows from the contracts of the functions that it calls.
 use mir.Facts.{toZ-ofZ}
 use Rattle.c_time.specs.TimeBits.{timeBitsOf}
 use borrow.Author.Needs.{needs}

@@ -1,4 +1,4 @@
--- `with_lambda` meets its contract, by what `from_bits` ensures.
+-- `with_lambda` meets its contract. This follows from the contract of `from_bits`.
 use Rattle.c_time.specs.TimeBits.{withLambda}
 use borrow.Author.Needs.{needs}
 use Rattle.c_time.proofs.with_lambda.Statement.{statement}
