@@ -1,5 +1,5 @@
--- The stations rise, 2^20 from each to the next, and so does the grid of every search (`grid-rises`). Its places are at most 2^40 in size
--- (`grid-room`).
+-- The stations rise by 2^20 from each to the next (`stations-rise`), and so the grid of every search rises (`grid-rises`). The places of
+-- that grid are at most 2^40 in size, measured by `mag` (`grid-room`).
 use Prim.Native.Nat.{ℕ, _≤_}
 use native.Mathlib.Omega.{arith}
 use lib.Signed.{mag}

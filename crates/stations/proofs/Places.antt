@@ -1,4 +1,6 @@
--- How large a station's place can be, so that an i64 holds it with room: bounds on `mag` of sums and products.
+-- For every index that fits in a u16, the size (`mag`) of the station's place plus the spacing is at most 2^40, so an i64 holds the place
+-- with room to spare (`station-room`). This follows from bounds on `mag` of sums and products. The other lemmas are about the next
+-- station (`next-station`), the upper station of a pair as the code computes it (`upper-read`), and the last index (`last-small`).
 use mathlib.Core.Path.{_≡_, sym, ap, _∙_}
 use mathlib.Core.Bool.{Bool, true, false, cond, not}
 use Prim.Native.Nat.{ℕ, zero, suc, _+_, _*_, _-_, _≤_, _<_, zero-le}
@@ -44,7 +46,7 @@ station-room i h =
     let first : ℤ = negℤ (pos stationsBelow) in
     omega (arith, mag-times (pos i +ℤ first) stationSpacing, mag-from i first)
 
--- what the machine reads back of a station's place
+-- A station's place, stored in 64 bits and read back, is unchanged.
 pub station-read : {i : ℕ} {z : ℤ} → z ≡ stationOf i → i < 65536 → toZ w64 (ofZ w64 z) ≡ stationOf i
 station-read {i} {z} e h =
     let fits : SFits w64 (stationOf i) = record { sfits = omega (arith, station-room i h) } in
@@ -57,7 +59,7 @@ next-station i =
     rw add-one
     (ap (λ (z : ℤ). z *ℤ pos stationSpacing) (sucℤ-+ℤ (pos i) first) ∙ sucℤ-*ℤ (pos i +ℤ first) (pos stationSpacing))
 
--- the upper station of a pair, as the code works it out
+-- The upper station of a pair as the code computes it: the sum fits in an i64, and it is the place of the next station.
 pub upper-fits : {i : ℕ} {z : ℤ} → z ≡ stationOf i → i < 65536 → SFits w64 (toZ w64 (ofZ w64 z) +ℤ pos stationSpacing)
 upper-fits {i} e h =
     rw (station-read e h) (record { sfits = omega (arith, mag-add (stationOf i) stationSpacing, station-room i h) })
@@ -66,7 +68,7 @@ pub upper-read : {i : ℕ} {z : ℤ} → z ≡ stationOf i → i < 65536 →
     toZ w64 (ofZ w64 (toZ w64 (ofZ w64 z) +ℤ pos stationSpacing)) ≡ stationOf (i + 1)
 upper-read {i} e h = toZ-ofZ (upper-fits e h) ∙ ap (λ (k : ℤ). k +ℤ pos stationSpacing) (station-read e h) ∙ sym (next-station i)
 
--- an index past the last station is one that a u16 holds
+-- The index after the last station fits in a u16.
 few-stations : (direct : Bool) → cond direct (lastJ 0) (lastJ 1) + stationsBelow + 1 < 65536
 few-stations true = omega arith
 few-stations false = omega arith

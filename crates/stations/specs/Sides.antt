@@ -10,16 +10,18 @@ use Rattle.stations.specs.declared.search.Search.{Search}
 use Rattle.stations.specs.declared.side.Side.{Side}
 use Rattle.stations.specs.declared.side.Side.the-variants.{Below, NotBelow, Unknown}
 
--- a place with a time is below if T < T*, else not below; a void place is on no side, and `Unknown` says that
+-- The side of a place for a wanted time T*: below if the place has a time T < T*, not below if it has any other time, and `Unknown` if it
+-- is void.
 unfoldable pub sideOf : Place → Float → Side
 sideOf (Timed time) wanted = cond (time ≺ wanted) Below NotBelow
 sideOf Void wanted = Unknown
 
--- the side of the place k in a search: of its triangle's time there, with its whole revolutions, and of its wanted time
+-- The side of place k in a search, from the time of the search's triangle at k with the search's whole revolutions, and from the search's
+-- wanted time.
 unfoldable pub sideAt : Search → ℤ → Side
 sideAt search k = sideOf (timeOf (search .triangle) k (search .revolutions)) (search .wanted)
 
--- both places have times, on different sides
+-- Whether two sides are known and differ, so that both places have times, on different sides.
 abbrev pub opposite : Side → Side → Bool
 opposite Below Below = false
 opposite Below NotBelow = true
@@ -29,7 +31,7 @@ opposite NotBelow NotBelow = false
 opposite NotBelow Unknown = false
 opposite Unknown b = false
 
--- the place is void
+-- Whether a side is `Unknown`, the side of a void place.
 abbrev pub isUnknown : Side → Bool
 isUnknown Below = false
 isUnknown NotBelow = false

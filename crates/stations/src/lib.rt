@@ -1,5 +1,6 @@
-// Stations and sides (01, Stations, sides, crossings): the fixed places at which the time is worked out,
-// 2^20 apart and rising, and which side of the wanted time a place is on.
+// Stations and sides (01, Stations, sides, crossings). The stations are the fixed places, 2^20
+// apart and rising, where a sweep computes the time. The side of a place says whether its time is
+// below the wanted time.
 ghost use mathlib.Core.Path.{_≡_};
 ghost use Rattle.stations.specs.Sides.{sideAt};
 ghost use Rattle.stations.specs.Stations.{stationOf, lastOf};
@@ -14,23 +15,24 @@ pub use side::are_opposite;
 pub use side::is_unknown;
 pub use side::side_at;
 
-// j of the first station, at the lowest place: -4095.
+// The first station's j, where k = j * 2^20. It is at the lowest place of the range, so j is -4095.
 const FIRST_J: i64 = Place::LOWEST / Place::STATION_SPACING;
 
-// The index of the last station, counted from 0, and that with whole revolutions.
+// The index of the last station, counted from 0, if there are no whole revolutions.
 const LAST_STATION: u16 = ((Place::HIGHEST - Place::LOWEST) / Place::STATION_SPACING) as u16;
 
+// The index of the last station if there are whole revolutions.
 const LAST_STATION_REVOLVING: u16 = ((Place::HIGHEST_REVOLVING - Place::LOWEST)
     / Place::STATION_SPACING) as u16;
 
-// The place of station i, counted from 0.
+// Returns the place of station i, counted from 0.
 pub fn station(i: u16) -> i64
     ensures { λ r. ⌜ r ≡ stationOf i ⌝ }
 {
     (i as i64 + FIRST_J) * Place::STATION_SPACING
 }
 
-// The index of the last station.
+// Returns the index of the last station for the given number of whole revolutions.
 pub fn last_station(revolutions: u16) -> u16
     ensures { λ r. ⌜ r ≡ lastOf revolutions ⌝ }
 {
@@ -41,7 +43,7 @@ pub fn last_station(revolutions: u16) -> u16
     }
 }
 
-// The side of station i.
+// Returns the side of station i in a search.
 pub fn side_of_station(search: Search, i: u16) -> Side
     ensures { λ r. ⌜ r ≡ sideAt search (stationOf i) ⌝ }
 {

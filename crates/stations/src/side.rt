@@ -1,17 +1,18 @@
-// The side of the wanted time that a place is on.
+// The side of the wanted time T* that a place is on.
 ghost use mathlib.Core.Path.{_≡_};
 ghost use Rattle.stations.specs.Sides.{sideOf, sideAt, opposite, isUnknown};
 use crate::Search;
 use flight_time::Place;
 
-// A place with a time is below the wanted time or not below it. A void place is on no side, and
-// `Unknown` says that.
+// The side of a place. A place with a time is below the wanted time or not below it; an equal time
+// is not below. A void place has no side, and its value is `Unknown`.
 pub enum Side {
     Below,
     NotBelow,
     Unknown,
 }
 
+// Returns the side of place k in a search.
 pub fn side_at(search: Search, k: i64) -> Side
     ensures { λ r. ⌜ r ≡ sideAt search k ⌝ }
 {
@@ -37,7 +38,7 @@ fn side_of(place: Place, wanted: f64) -> Side
     }
 }
 
-// Whether both sides are known and differ.
+// Reports whether both sides are known and differ.
 pub fn are_opposite(a: Side, b: Side) -> bool
     ensures { λ r. ⌜ r ≡ opposite a b ⌝ }
 {
@@ -56,6 +57,7 @@ pub fn are_opposite(a: Side, b: Side) -> bool
     }
 }
 
+// Reports whether a side is `Unknown`, the value for a void place.
 pub fn is_unknown(side: Side) -> bool
     ensures { λ r. ⌜ r ≡ isUnknown side ⌝ }
 {

@@ -1,4 +1,4 @@
--- `last_station` meets its contract: the test that `lastOf` makes is the code's.
+-- `last_station` meets its contract: the code and `lastOf` test the same condition.
 use borrow.Author.Tests.{eq-eqb, ne-eqb}
 use Rattle.stations.specs.Stations.{lastOf}
 use Rattle.stations.proofs.last_station.Statement.{statement}

@@ -1,4 +1,4 @@
--- `side_of_station` meets its contract: it is the side at the place that `station` returns.
+-- `side_of_station` meets its contract: it returns the side at the place that `station` returns.
 use mathlib.Core.Path.{ap, _∙_}
 use native.Mathlib.Omega.{arith}
 use Rattle.stations.specs.Sides.{sideAt}

@@ -1,4 +1,4 @@
--- `are_opposite` meets its contract: by the cases of the two sides.
+-- `are_opposite` meets its contract: the proof goes through the cases of the two sides.
 use borrow.Author.Needs.{needs}
 use Rattle.stations.proofs.side.are_opposite.Statement.{statement}
 use Rattle.stations.proofs.side.are_opposite.Tie as tie

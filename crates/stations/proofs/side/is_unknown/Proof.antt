@@ -1,4 +1,4 @@
--- `is_unknown` meets its contract: by the case of the side.
+-- `is_unknown` meets its contract: the proof goes through the three sides.
 use borrow.Author.Needs.{needs}
 use Rattle.stations.proofs.side.is_unknown.Statement.{statement}
 use Rattle.stations.proofs.side.is_unknown.Tie as tie

@@ -1,4 +1,5 @@
--- `side_of` meets its contract: by the case of the place and the comparison of the times.
+-- `side_of` meets its contract: the proof distinguishes a timed from a void place, and the two results of the comparison with the wanted
+-- time.
 use borrow.Author.Needs.{needs}
 use Rattle.stations.specs.Sides.{sideOf}
 use Rattle.stations.proofs.side.side_of.Statement.{statement}
