@@ -1,5 +1,5 @@
--- Halving, one step at a time: in an interval of the width 2^(n+1) the middle is 2^n above the lower end and is neither end, so that the
--- definition's step is one choice.
+-- One step of the definition (`step`): in an interval of width 2^(n+1) the middle is 2^n above the lower end and is neither end. So the
+-- step stops if the middle is void, and otherwise it chooses one of the two halves.
 use mathlib.Core.Path.{_≡_, refl, sym, ap, _∙_}
 use mathlib.Core.Bool.{true, false, cond, or-false}
 use Prim.Native.Nat.{ℕ, suc, _+_, _/_, _^_, _≤_}
@@ -19,7 +19,7 @@ double n = omega (arith, pow-suc 2 n)
 
 -- ---- sides
 
--- two known sides that are not opposite are one
+-- Two known sides that are not opposite are equal.
 pub same-side : (a b : Side) → isUnknown a ≡ false → isUnknown b ≡ false → opposite a b ≡ false → a ≡ b
 same-side Below Below p q r = refl
 same-side NotBelow NotBelow p q r = refl
@@ -29,7 +29,7 @@ same-side Unknown b p q r = cc
 same-side Below Unknown p q r = cc
 same-side NotBelow Unknown p q r = cc
 
--- both ends of a crossing have times
+-- Opposite sides are both known: both ends of a crossing have times.
 pub lower-known : (a b : Side) → opposite a b ≡ true → isUnknown a ≡ false
 lower-known Below b e = refl
 lower-known NotBelow b e = refl
@@ -52,7 +52,7 @@ pub mag-twice : (z : ℤ) → mag (z +ℤ z) ≤ mag z + mag z + 1
 mag-twice (pos x) = omega arith
 mag-twice (negsuc x) = omega arith
 
--- a and a + 2k are twice a + k
+-- The sum of a and a + 2k is twice a + k.
 sum-twice : (a : ℤ) (k : ℕ) → a +ℤ (a +ℤ pos (k + k)) ≡ (a +ℤ pos k) +ℤ (a +ℤ pos k)
 sum-twice a k =
     ap (λ (z : ℤ). a +ℤ z) (sym (+ℤ-assoc a (pos k) (pos k)) ∙ +ℤ-comm (a +ℤ pos k) (pos k))
@@ -74,7 +74,7 @@ same-no (negsuc x) (negsuc y) f = ne-eqb x y (λ e. f (ap negsuc e))
 same-no (pos x) (negsuc y) f = refl
 same-no (negsuc x) (pos y) f = refl
 
--- ---- the step of an interval of the width 2^(n+1)
+-- ---- one step in an interval of width 2^(n+1)
 
 module _ (a : ℤ) (n : ℕ) where
   abbrev pub middle : ℤ
@@ -105,7 +105,7 @@ module _ (a : ℤ) (n : ℕ) where
   wide = rw (up-less a (2 ^ suc n)) (ne-eqb (2 ^ suc n) 1 (λ e. omega (arith, e, double n, pow-pos n)))
 
   module _ (σ : ℤ → Side) where
-    -- only a void middle stops it
+    -- Halving stops exactly if the middle is void.
     pub stops-is : stops σ a top ≡ isUnknown (σ middle)
     stops-is = rw (wide, middle-is, same-no middle a not-low, same-no middle top not-high) (or-false (isUnknown (σ middle)))
 

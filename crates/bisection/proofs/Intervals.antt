@@ -1,5 +1,6 @@
--- What `bisect` asks of an interval and finds in it: the machine's numbers for the width and the middle are the definition's, each half
--- is an interval again, and each way of the code is the definition's.
+-- The steps of `bisect` on an interval that meets its precondition. The width and the middle that the machine computes are those of the
+-- definition (`width-bits`, `mid-read`). Each half meets the precondition again (`lower-next`, `upper-next`). Each branch of the code
+-- returns what the definition gives (`at-one`, `at-void`, `in-lower`, `in-upper`).
 use mathlib.Core.Path.{_≡_, refl, sym, ap, _∙_, subst}
 use mathlib.Core.Bool.{true, false, cond}
 use Prim.Native.Nat.{ℕ, zero, suc, _+_, _-_, _^_, _≤_, _<_}
@@ -19,19 +20,19 @@ use Rattle.stations.proofs.Places.{mag-add}
 use Rattle.bisection.proofs.Halving.{double, up-less, middle, top, up-twice, sum-is, middle-is, step, mag-twice}
 use Rattle.bisection.proofs.LowerSide.{at-lower, own-side, at-middle, upper-half}
 
--- an interval by other names of its ends
+-- The precondition still holds if the ends are replaced by equal numbers.
 pub renamed : {a b x y : ℤ} {h : ℕ} → x ≡ a → y ≡ b → Interval a b h → Interval x y h
 renamed {b = b} {x = x} {h = h} e f v =
     let lower : Interval x b h = subst (λ (z : ℤ). Interval z b h) (sym e) v in
     subst (λ (z : ℤ). Interval x z h) (sym f) lower
 
--- 2^k is 1 at k = 0 alone
+-- 2^k is 1 only if k = 0.
 one-at : (k : ℕ) → 2 ^ k ≡ 1 → k ≡ 0
 one-at zero e = refl
 one-at (suc k) e = omega (arith, double k, pow-pos k)
 
 module _ {a b : ℤ} {h : ℕ} (v : Interval a b h) where
-  -- at width 1 no halving is left
+  -- At width 1 no halvings are left, and the definition gives the interval itself.
   pub at-one : (σ : ℤ → Side) → 2 ^ (20 - h) ≡ 1 → record { lower = a; upper = b; halvings = h } ≡ bisectOf σ (20 - h) h a b
   unfolding bisectOf
   at-one σ e = let z : 20 - h ≡ 0 = one-at (20 - h) e in rw z
@@ -57,7 +58,7 @@ module _ {a b : ℤ} {h : ℕ} (v : Interval a b h) where
     rest : 20 - h ≡ suc (20 - (h + 1))
     rest = omega (arith, left)
 
-    -- the middle, half the width above the lower end
+    -- The middle: half the width above the lower end.
     abbrev pub mid : ℤ
     mid = middle a (20 - (h + 1))
 
@@ -77,7 +78,7 @@ module _ {a b : ℤ} {h : ℕ} (v : Interval a b h) where
       pub sum-fits : SFits w64 (toZ w64 (ofZ w64 a) +ℤ toZ w64 (ofZ w64 b))
       sum-fits = rw sum-read (record { sfits = omega (arith, mag-twice mid, mid-room) })
 
-      -- the middle as the code works it out
+      -- The middle as the code computes it.
       abbrev pub halfway : ℤ
       halfway = quotZ (toZ w64 (ofZ w64 (toZ w64 (ofZ w64 a) +ℤ toZ w64 (ofZ w64 b)))) (pos 2)
 
@@ -103,7 +104,7 @@ module _ {a b : ℤ} {h : ℕ} (v : Interval a b h) where
           room = mid-room;
         }
 
-    -- the lower end counts as on the side `low`, and the middle is on the side s
+    -- Here the lower end counts as being on the side `low`, and s is the side of the middle.
     module _ (σ : ℤ → Side) (low : Side) {s : Side} (here : s ≡ σ mid) where
       halves : bisectOf (withSide σ a low) (20 - h) h a b
           ≡ cond (isUnknown s) (record { lower = a; upper = b; halvings = h })

@@ -1,5 +1,6 @@
--- The halving of an interval whose lower end counts as on a given side: it depends on no place below the interval, so that above the
--- middle the given side does not matter; and with the lower end's own side it is the halving of 01 (`own-side`, `own-bracket`).
+-- The bisection of an interval whose lower end counts as being on a given side. Bisection depends on no place below its interval
+-- (`agree`), so the given side has no effect on the upper half (`upper-half`). With the lower end's own side it is the bisection of 01
+-- (`own-side`, `own-bracket`).
 use mathlib.Core.Path.{_≡_, refl, sym, ap, _∙_, subst, fun-ext}
 use mathlib.Core.Bool.{Bool, true, false, cond}
 use Prim.Native.Nat.{ℕ, zero, suc, _+_, _^_, _<_}
@@ -13,7 +14,7 @@ use Rattle.bisection.specs.Halving.{same, withSide, bisectOf}
 use Rattle.bisection.specs.Pairs.{bracketOf, bracketFrom}
 use Rattle.bisection.proofs.Halving.{up-same, same-no, middle, top, up-twice, step}
 
--- ---- the side at each place
+-- ---- sides with that of the lower end replaced
 
 same-yes : (a : ℤ) → same a a ≡ true
 same-yes (pos a) = eq-eqb a a refl
@@ -38,7 +39,7 @@ own-at : (σ : ℤ → Side) (a k : ℤ) (b : Bool) → same k a ≡ b → cond 
 own-at σ a k true e = ap σ (sym (same-is k a e))
 own-at σ a k false e = refl
 
--- the lower end's own side changes nothing
+-- Giving the lower end its own side changes nothing.
 pub own-side : (σ : ℤ → Side) (a : ℤ) → withSide σ a (σ a) ≡ σ
 unfolding withSide
 own-side σ a = fun-ext (λ k. own-at σ a k (same k a) refl)
@@ -47,7 +48,7 @@ pub own-bracket : (σ : ℤ → Side) (g : Grid) (i : ℕ) → bracketFrom σ (�
 unfolding bracketFrom
 own-bracket σ g i = ap (λ (τ : ℤ → Side). bracketOf τ g i) (own-side σ (g .place i))
 
--- ---- no place below an interval matters
+-- ---- independence of the places below an interval
 
 none-left : (σ : ℤ → Side) (h : ℕ) (a b : ℤ) → bisectOf σ zero h a b ≡ record { lower = a; upper = b; halvings = h }
 unfolding bisectOf
@@ -67,7 +68,7 @@ agree σ τ (suc n) h a f =
     subst (λ (z : ℤ). bisectOf σ n (h + 1) (middle a n) z ≡ bisectOf τ n (h + 1) (middle a n) z) (up-twice a n) above in
     rw (step a n σ h, step a n τ h, in-lower, in-upper, lower, here)
 
--- from the middle up the side that the lower end counts as does not matter
+-- From the middle upwards, the side given to the lower end has no effect.
 module _ (σ : ℤ → Side) (a : ℤ) (low : Side) (n h : ℕ) where
   pub at-middle : withSide σ a low (middle a n) ≡ σ (middle a n)
   at-middle = above-lower σ a low (2 ^ n) (omega (arith, pow-pos n))

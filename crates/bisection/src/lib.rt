@@ -1,5 +1,5 @@
-// The bisection of a pair (01, Stations, sides, crossings): where the halving of two neighbouring
-// stations stops.
+// The bisection of a pair of neighbouring stations (01, Stations, sides, crossings). The interval
+// where it stops is the bracket of the pair.
 ghost use mathlib.Core.Path.{_≡_};
 ghost use Prim.Native.Nat.{_-_};
 ghost use Rattle.stations.specs.Grid.{stations};
@@ -15,16 +15,17 @@ use stations::is_unknown;
 use stations::side_at;
 use stations::station;
 
-// The interval at which the halving of a pair stops, and how often the pair was halved.
+// A bracket: the interval where the bisection of a pair stops, and how many times the pair was
+// halved.
 pub struct Bracket {
     pub lower: i64,
     pub upper: i64,
     pub halvings: u32,
 }
 
-// The bracket of the stations i and i + 1: where the halving of this pair stops. `low` is the side of
-// station i, which the caller has worked out. With that side the bracket's ends are on opposite sides
-// if the pair's are.
+// Returns the bracket of the pair of stations i and i + 1. `low` is the side of station i, which
+// the caller has already computed. With that side, the bracket's ends are on opposite sides if the
+// two stations are.
 pub fn bracket_of(search: Search, low: Side, i: u16) -> Bracket
     ensures { λ r. ⌜ r ≡ bracketFrom (sideAt search) low stations i ⌝ }
 {
@@ -32,8 +33,9 @@ pub fn bracket_of(search: Search, low: Side, i: u16) -> Bracket
     bisect(search, low, a, a + Place::STATION_SPACING, 0)
 }
 
-// Halves the interval from a to b, whose lower end is on the side `low`, after h halvings. In an
-// interval wider than 1 the middle is neither end.
+// Bisects the interval from a to b, which is the result of h halvings so far. `low` is the side of
+// the lower end a. In an interval wider than 1 the middle is never an end, so the code has no
+// branch for that.
 fn bisect(search: Search, low: Side, a: i64, b: i64, h: u32) -> Bracket
     requires { ⌜ Interval a b h ⌝ }
     ensures { λ r. ⌜ r ≡ bisectOf (withSide (sideAt search) a low) (20 - h) h a b ⌝ }

@@ -1,4 +1,5 @@
--- `bisect` meets its contract: the measure is the number of halvings that are left, and each way of the code is a step of the definition.
+-- `bisect` meets its contract: the measure is the number of halvings left, 20 - h, and each branch of the code is a step of the
+-- definition.
 use Prim.Native.Nat.{ℕ, _+_, _-_, _^_, _<_}
 use mathlib.Core.Path.{_≡_, sym, ap, _∙_, subst}
 use native.Mathlib.Omega.{arith}
@@ -22,13 +23,15 @@ use Rattle.bisection.proofs.+bisect.Tie.{close}
 abbrev μ-bisect : Measures 0 bisect-kinds.ps ℕ
 μ-bisect κs a = 20 - a .1 .1 .1 .1 .0
 
--- what `bisect` is given at the measure t, and what it may count on of the calls, its own below t
+-- The precondition of `bisect` for arguments of measure t.
 abbrev bisect-at : ℕ → In 0 bisect-kinds.ps
 bisect-at t = and 0 bisect-kinds.ps (is 0 bisect-kinds.ps μ-bisect t) bisect.Pre
 
+-- The precondition of the recursive calls: their measure is below t.
 abbrev bisect-below : ℕ → In 0 bisect-kinds.ps
 bisect-below t = and 0 bisect-kinds.ps (falls 0 bisect-kinds.ps _<_ μ-bisect t) bisect.Pre
 
+-- What the called functions require and ensure, the recursive calls included.
 abbrev calls : ℕ → bisect-lts.Claims
 calls t = (
   side-at-reads.Asked,
@@ -42,20 +45,20 @@ calls t = (
 )
 
 module _ (t : ℕ) where
-  -- past the first test the width is not 1
+  -- After the first test, the width is not 1.
   more : (c : bisect-lts.Else1 (calls t) (bisect-at t) bisect.Post) → 2 ^ (20 - c .before .args .h) ≡ 1 → ⊥
   more c e =
       let start = c .before in
       c .if1 .left (width-bits (start .pre .1) (start .fits .a) (start .fits .b) ∙ e)
 
-  -- fewer halvings are left
+  -- A recursive call has fewer halvings left.
   fewer : (c : bisect-lts.Else1 (calls t) (bisect-at t) bisect.Post) → 20 - (c .before .args .h + 1) < t
   fewer c =
       let start = c .before in
       let below = left (start .pre .1) (more c) in
       subst (λ (j : ℕ). 20 - (start .args .h + 1) < j) (start .pre .0) (omega (arith, below))
 
-  -- the machine's middle is the middle
+  -- The middle that the machine computes is the middle of the interval.
   middle-read : (c : bisect-lts.Else1 (calls t) (bisect-at t) bisect.Post) →
       let start = c .before in
       toZ w64 (ofZ w64 (halfway (start .pre .1) (more c) (start .fits .a) (start .fits .b))) ≡ mid (start .pre .1) (more c)
@@ -63,7 +66,7 @@ module _ (t : ℕ) where
       let start = c .before in
       mid-read (start .pre .1) (more c) (start .fits .a) (start .fits .b)
 
-  -- the side that was found is that of the middle
+  -- The side that `side_at` returned is that of the middle.
   here : (c : bisect-lts.After-side-at (calls t) (bisect-at t) bisect.Post) →
       let wider = c .before in
       let start = wider .before in
@@ -73,7 +76,7 @@ module _ (t : ℕ) where
       let start = wider .before in
       c .side-at .ensures ∙ ap (sideAt (start .args .search)) (middle-read wider)
 
-  -- from the comparison of the two sides back to the test of the width
+  -- Leads from the facts known after the comparison of the two sides back to those known after the test of the width.
   abbrev wider-than-one : bisect-lts.After-are-opposite (calls t) (bisect-at t) bisect.Post →
       bisect-lts.Else1 (calls t) (bisect-at t) bisect.Post
   wider-than-one c =

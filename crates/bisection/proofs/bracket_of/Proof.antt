@@ -1,4 +1,4 @@
--- `bracket_of` meets its contract: the pair is an interval of the width 2^20, not yet halved.
+-- `bracket_of` meets its contract: the pair, 2^20 wide and not halved yet, meets the precondition of `bisect`.
 use native.Mathlib.Omega.{arith}
 use Rattle.bisection.specs.Pairs.{bracketOf, bracketFrom}
 use Rattle.stations.proofs.Places.{station-room, station-read, next-station, upper-fits, upper-read}
