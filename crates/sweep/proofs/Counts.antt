@@ -1,5 +1,5 @@
--- How many brackets a sweep reports, over any side of each place and any grid: as many as there are crossings, eight at most; and where
--- there are at most eight, the used places of the list are all of them.
+-- How many brackets a sweep reports, for any sides of the places and any grid: as many as there are crossings, but at most eight
+-- (`counted`). If there are at most eight crossings, the used elements of the list are all of their brackets (`all-listed`).
 use mathlib.Core.Path.{_≡_, ap}
 use Prim.Native.Nat.{ℕ, _-_, _≤_, min}
 use native.Mathlib.Omega.{arith}
@@ -12,12 +12,12 @@ use Rattle.bisection.specs.Pairs.{bracketOf}
 use Rattle.sweep.specs.Crossings.{crossings, brackets, blank, reported, sweepOf}
 
 module _ (σ : ℤ → Side) (g : Grid) (last : ℕ) where
-  -- as many brackets as crossings
+  -- There are as many brackets as crossings.
   pub length-is : length (brackets σ g last) ≡ length (crossings σ g last)
   unfolding brackets
   length-is = length-map (crossings σ g last) (bracketOf σ g)
 
-  -- the count is the number of crossings, where that is at most eight, and eight where it is more
+  -- The count is the number of crossings if that is at most eight, and eight otherwise.
   pub counted : sweepOf σ g last .count ≡ min 8 (length (crossings σ g last))
   unfolding sweepOf reported
   counted = ap (min 8) length-is

@@ -1,4 +1,5 @@
--- What one more station adds to the crossings, their brackets and the voids, and what is reported once a walk ends.
+-- How one more place changes the brackets (`brackets-next`) and whether some place is void (`some-next`), and what is reported when the
+-- walk ends (`all-passed`, `left-at`).
 use mathlib.Core.Path.{_≡_, refl, sym, ap, _∙_}
 use mathlib.Core.Bool.{Bool, true, false, cond, _||_, or-assoc, or-false}
 use mathlib.Core.List.{List, [], _∷_, _++_, map, append-assoc, append-nil}
@@ -52,9 +53,9 @@ pub some-next : (p : ℕ → Bool) (i : ℕ) → some p (upTo (i + 1)) ≡ some 
 unfolding some
 some-next p i = ap (some p) (up-next i) ∙ some-append p (upTo i) (i ∷ []) ∙ ap (λ b. some p (upTo i) || b) (or-false (p i))
 
--- ---- eight places
+-- ---- the list of eight elements
 
--- one more bracket at the end of the used ones
+-- Writing a bracket to the first unused element appends it to the used ones.
 pub eight-set : (bs : List Bracket) (b : Bracket) → length bs < 8 → set (eight bs) (length bs) b ≡ eight (bs ++ (b ∷ []))
 eight-set bs b h =
     let e : 8 - length bs ≡ suc (7 - length bs) = omega arith in
@@ -63,7 +64,7 @@ eight-set bs b h =
     ∙ set-append-seam bs blank (replicate (7 - length bs) blank) b
     ∙ sym (ap (λ (k : ℕ). (bs ++ (b ∷ [])) ++ replicate k blank) f ∙ append-snoc bs b (replicate (7 - length bs) blank))
 
--- ---- what is reported
+-- ---- the report
 
 pub no-ninth : (bs : List Bracket) (void : Bool) → length bs ≤ 8 →
     record { list = eight bs; count = length bs; walk = walkOf false void } ≡ reported bs void
@@ -80,7 +81,7 @@ a-ninth bs rest b u void h =
     let count : (reported (bs ++ (b ∷ rest)) void) .count ≡ 8 = omega arith in
     rw (take-at bs (b ∷ rest) 8 h, count, lt-ltb 8 (length (bs ++ (b ∷ rest))) n)
 
--- ---- places of any grid
+-- ---- the places of any grid
 
 module _ (σ : ℤ → Side) (g : Grid) where
   pub brackets-next : (i : ℕ) → brackets σ g (i + 1) ≡ brackets σ g i ++ cond (crosses σ g i) (bracketOf σ g i ∷ []) []
@@ -90,7 +91,7 @@ module _ (σ : ℤ → Side) (g : Grid) where
       ∙ map-append (bracketOf σ g) (crossings σ g i) (cond (crosses σ g i) (i ∷ []) [])
       ∙ ap (λ bs. brackets σ g i ++ bs) (map-cond (bracketOf σ g) (crosses σ g i) i)
 
-  -- the brackets found so far are the first of all
+  -- The brackets up to place i are a prefix of the brackets up to a later place.
   later : (i k : ℕ) → (rest : List Bracket) × (brackets σ g (i + k) ≡ brackets σ g i ++ rest)
   later i zero = ([], rw (add-zero, append-nil))
   later i (suc k) =
@@ -102,14 +103,14 @@ module _ (σ : ℤ → Side) (g : Grid) where
             ∙ rw (r .1) (append-assoc (brackets σ g i) (r .0) more),
       )
 
-  -- the walk passed every station
+  -- The result if the walk passed every place.
   pub all-passed : (last : ℕ) → length (brackets σ g last) ≤ 8 →
       record { list = eight (brackets σ g last); count = length (brackets σ g last); walk = walkOf false (someVoid σ g last) }
       ≡ sweepOf σ g last
   unfolding sweepOf
   all-passed last h = no-ninth (brackets σ g last) (someVoid σ g last) h
 
-  -- it was left at the pair i, the ninth that crosses
+  -- The result if the walk stopped at pair i, the ninth that crosses.
   pub left-at : (i last : ℕ) (u : Bool) → i < last → length (brackets σ g i) ≡ 8 → crosses σ g i ≡ true →
       record { list = eight (brackets σ g i); count = 8; walk = walkOf true u } ≡ sweepOf σ g last
   unfolding sweepOf

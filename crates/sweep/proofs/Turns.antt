@@ -1,5 +1,5 @@
--- The invariant of the walk over the places of a grid, `Passed`: how it begins, what a turn makes of it, and what it says where the walk
--- ends.
+-- `Passed` is the invariant of the walk over the places of a grid. It holds at the start (`starts`), each iteration keeps it (`passed`,
+-- `listed`), and at the end it gives the result of the definition (`done` after the last place, `too-many` at a ninth crossing).
 use mathlib.Core.Path.{_≡_, refl, sym, ap, _∙_, subst}
 use mathlib.Core.Bool.{Bool, true, false, cond, _||_}
 use mathlib.Core.List.{List, [], _∷_, _++_, append-nil}
@@ -19,12 +19,12 @@ use Rattle.bisection.proofs.LowerSide.{own-bracket}
 use Rattle.sweep.specs.Crossings.{upTo, keep, some, crossings, someVoid, brackets, blank, eight, walkOf, sweepOf}
 use Rattle.sweep.proofs.Lists.{some-next, eight-set, brackets-next, all-passed, left-at}
 
--- the side of the place before place i; before the first there is none
+-- The side of the place before place i. There is none before the first, so that side is `Unknown`.
 unfoldable pub before : (ℤ → Side) → Grid → ℕ → Side
 before σ g zero = Unknown
 before σ g (suc i) = σ (g .place i)
 
--- the places below i are passed: the brackets of their pairs are listed, and no ninth was among them
+-- The walk has passed the places below i: the list holds the brackets of the pairs that cross among them, and there was no ninth.
 pub record Passed (σ : ℤ → Side) (g : Grid) (last : ℕ) (list : List Bracket) (count : ℕ) (void : Bool) (low : Side) (i : ℕ) : Type 0 where
   pub within : i ≤ last + 1
   pub here : low ≡ before σ g i
@@ -38,7 +38,8 @@ pub starts : (σ : ℤ → Side) (g : Grid) (last : ℕ) →
 unfolding before brackets crossings keep some upTo
 starts σ g last = record { within = omega arith; here = refl; found = refl; counted = refl; most = omega arith; voided = refl }
 
--- what the pair below place i adds to the brackets: its own, if the place before i and place i are on opposite sides
+-- What pair i adds to the brackets, given the sides of its lower and upper place: its own bracket if they are opposite, and nothing
+-- otherwise.
 abbrev addition : (ℤ → Side) → Grid → ℕ → Side → Side → List Bracket
 addition σ g i low high = cond (opposite low high) (bracketOf σ g i ∷ []) []
 
@@ -52,7 +53,7 @@ added σ g (suc j) =
     (subst (λ (k : ℕ). brackets σ g k ≡ brackets σ g j ++ addition σ g j (σ (g .place j)) (σ (g .place k))) (add-one j)
     (brackets-next σ g j))
 
--- there is a pair below place i, it crosses, and the side before place i is that of its lower place
+-- There is a pair below place i, it crosses, and the side before place i is the side of the pair's lower place.
 pub record Pair (σ : ℤ → Side) (g : Grid) (i : ℕ) : Type 0 where
   pub positive : 1 ≤ i
   pub crossing : crosses σ g (i - 1) ≡ true
@@ -67,7 +68,7 @@ pair-at σ g (suc j) e =
 
 module _ {σ : ℤ → Side} {g : Grid} {last : ℕ} {list : List Bracket} {count : ℕ} {void : Bool} {low : Side} {i : ℕ}
     (v : Passed σ g last list count void low i) where
-  -- every place is passed
+  -- The walk has passed every place.
   pub done : {ninth : Bool} → ninth ≡ false → last < i →
       record { list = list; count = count; walk = walkOf ninth void } ≡ sweepOf σ g last
   unfolding someVoid
@@ -79,16 +80,17 @@ module _ {σ : ℤ → Side} {g : Grid} {last : ℕ} {list : List Bracket} {coun
       (all-passed σ g last (subst (λ (k : ℕ). length (brackets σ g k) ≤ 8) e few))
 
   module _ {high : Side} (h : high ≡ σ (g .place i)) where
-    -- the pair below place i crosses
+    -- If the sides before and at place i are opposite, the pair below place i crosses.
     pub pair : opposite low high ≡ true → Pair σ g i
     pair o = pair-at σ g i (rw (v .here, h) at o)
 
-    -- the bracket that is worked out from the side of the lower place is the pair's
+    -- The bracket computed from the side of the lower place is the bracket of the pair.
     bracket-is : {b : Bracket} → opposite low high ≡ true → b ≡ bracketFrom σ low g (i - 1) → b ≡ bracketOf σ g (i - 1)
     bracket-is o e =
         let lower : low ≡ σ (g .place (i - 1)) = v .here ∙ pair o .lower in
         e ∙ ap (λ (s : Side). bracketFrom σ s g (i - 1)) lower ∙ own-bracket σ g (i - 1)
 
+    -- The walk stops at a ninth crossing.
     pub too-many : {ninth : Bool} → ninth ≡ true → i ≤ last → count ≡ 8 → opposite low high ≡ true →
         record { list = list; count = count; walk = walkOf ninth void } ≡ sweepOf σ g last
     too-many n l e o =
@@ -97,7 +99,7 @@ module _ {σ : ℤ → Side} {g : Grid} {last : ℕ} {list : List Bracket} {coun
         rw (v .found, n, e) (left-at σ g (i - 1) last void (omega (arith, p .positive)) full (p .crossing))
 
     module _ {unknown : Bool} (u : unknown ≡ isUnknown high) (l : i ≤ last) where
-      -- the invariant past place i, with what the pair below it added
+      -- The invariant after place i, given the list and the count after the pair below place i.
       next : (list' : List Bracket) (count' : ℕ) →
           list' ≡ eight (brackets σ g i) → count' ≡ length (brackets σ g i) → count' ≤ 8 →
           Passed σ g last list' count' (void || unknown) high (i + 1)
@@ -113,11 +115,13 @@ module _ {σ : ℤ → Side} {g : Grid} {last : ℕ} {list : List Bracket} {coun
             voided = rw (v .voided, u, h) (sym (some-next (λ j. isUnknown (σ (g .place j))) i));
           }
 
+      -- The invariant after place i if the pair below it does not cross.
       pub passed : opposite low high ≡ false → Passed σ g last list count (void || unknown) high (i + 1)
       passed o =
           let none : brackets σ g i ≡ brackets σ g (i - 1) = added σ g i ∙ rw (← v .here, ← h, o, append-nil) in
           next list count (rw none (v .found)) (rw none (v .counted)) (v .most)
 
+      -- The invariant after place i if the pair below it crosses and its bracket was written to the list.
       pub listed : {b : Bracket} → opposite low high ≡ true → (count ≡ 8 → ⊥) → b ≡ bracketFrom σ low g (i - 1) →
           Passed σ g last (set list count b) (count + 1) (void || unknown) high (i + 1)
       listed {b} o f e =

@@ -1,6 +1,6 @@
-// Where the time of flight crosses the wanted time (01, Stations, sides, crossings): the stations are
-// walked in rising x, and each of the first eight neighbouring pairs on different sides is halved
-// down to a bracket.
+// The sweep (01, Stations, sides, crossings) finds where the time of flight crosses the wanted
+// time. It walks over the stations in rising x and bisects each of the first eight neighbouring
+// pairs whose times are on different sides, down to a bracket.
 ghost use mathlib.Core.Path.{_≡_};
 ghost use Rattle.sweep.specs.Crossings.{walkOf, sweepFor};
 pub use bisection::Bracket;
@@ -12,23 +12,24 @@ use stations::is_unknown;
 use stations::last_station;
 use stations::side_of_station;
 
-// What is known of the stations. At a ninth crossing the walk is left, and nothing is said of the
-// times at the stations.
+// What a sweep found out about the times at the stations: all stations have times, or some are
+// void. `NinthFound` means that the sweep stopped at a ninth crossing. In that case it does not
+// report whether a station is void.
 pub enum Walk {
     AllTimed,
     SomeVoid,
     NinthFound,
 }
 
-// The brackets of the first eight crossings, the lowest first: eight places, of which the first
-// `count` are used and the others are zeros.
+// The result of a sweep: the brackets of the first eight crossings, the lowest first. The list has
+// eight elements. The first `count` of them are used, and the others are zeros.
 pub struct Crossings {
     pub list: [Bracket; 8],
     pub count: usize,
     pub walk: Walk,
 }
 
-// The crossings of the wanted time, at the places of the search's grid.
+// Returns the crossings of the wanted time among the places of the search's grid.
 pub fn find_crossings(search: Search) -> Crossings
     ensures { λ r. ⌜ r ≡ sweepFor search ⌝ }
 {
@@ -56,7 +57,7 @@ pub fn find_crossings(search: Search) -> Crossings
         low = high;
         i += 1;
     }
-    // A walk that ends before the last station has found a ninth.
+    // If the loop ended before it passed the last station, it found a ninth crossing.
     Crossings {
         list,
         count,

@@ -1,5 +1,5 @@
--- `find_crossings` meets its contract: the invariant is `Passed`, all that is to be said of the stations below i; the measure is the
--- number of stations that are left.
+-- `find_crossings` meets its contract: the invariant is `Passed`, which states what is known about the stations below i. The measure is
+-- the number of stations left.
 use mathlib.Core.Path.{sym, _∙_}
 use mathlib.Core.Logic.{⊎-elim}
 use Prim.Native.Nat.{_+_, _-_, _≤_, _<_}
@@ -26,7 +26,7 @@ last-station-requires c κs = tt
 stations-holds : tie.Need-stations-holds Inv-stations μ-stations
 stations-holds c = starts _ _ _
 
--- in a turn i is at most the last station, so that i + 1 is one that a u16 holds
+-- In an iteration, i is at most the index of the last station, so i + 1 fits in a u16.
 small : (c : tie.In-stations Inv-stations μ-stations) → c .before .stations .i + 1 < 65536
 small c =
     let looped = c .before in

@@ -1,4 +1,4 @@
--- `walk_of` meets its contract: by its two tests.
+-- `walk_of` meets its contract: the proof checks the branches of its two conditions.
 use borrow.Author.Needs.{needs}
 use Rattle.sweep.proofs.walk_of.Statement.{statement}
 use Rattle.sweep.proofs.walk_of.Tie as tie
