@@ -1,4 +1,6 @@
--- What the sweep says of searches that no question leads to, whatever the grid; and that a side is known only where there is a finite time.
+-- What a sweep reports for searches that no question leads to, over any grid: a triangle or a number of revolutions outside the range of
+-- the time (`nothing-outside`), and a wanted time that is a NaN (`nothing-at-nan`). Also, a place whose side is known has a finite time
+-- (`known-finite`).
 use mathlib.Core.Path.{_≡_, refl, subst}
 use mathlib.Core.Bool.{Bool, true, false, not, _||_}
 use mathlib.Core.Logic.{_⊎_, ⊎-elim}
@@ -27,9 +29,9 @@ use Rattle.sweep.proofs.Counts.{counted}
 use Rattle.crossing_laws.proofs.Theorems.{clash, none-exactly, void-exactly}
 use Rattle.crossing_laws.proofs.Corners.{none-below, below-exactly}
 
--- ---- a known side has a finite time behind it
+-- ---- the finite time of a place whose side is known
 
--- the place k has a time, and it is finite
+-- Place k has a time, and it is finite.
 abbrev pub FiniteAt : Search → ℤ → Type 0
 FiniteAt s k = (time : Float) × ((timeOf (s .triangle) k (s .revolutions) ≡ Timed time) × (finiteOf time ≡ true))
 
@@ -43,7 +45,7 @@ pub known-finite : (s : Search) (k : ℤ) → isUnknown (sideAt s k) ≡ false �
 unfolding sideAt
 known-finite s k h = finite-by s k (timeOf (s .triangle) k (s .revolutions)) refl h
 
--- ---- where no place has a time, nothing is found, and void stations are the reason
+-- ---- a search in which no place has a time: no crossing is found, and void places are reported
 
 all-unknown : (σ : ℤ → Side) (g : Grid) (last : ℕ) → ((k : ℤ) → σ k ≡ Unknown) →
     (sweepOf σ g last .count ≡ 0) × (sweepOf σ g last .walk ≡ SomeVoid)
@@ -61,7 +63,7 @@ outside-by : (s : Search) (k : ℤ) → outsideRange (s .triangle .lambda) k (s 
 unfolding sideAt sideOf timeOf
 outside-by s k e = rw e
 
--- |L| is not below 1, or there are more than 16 revolutions
+-- |L| is not below 1, or there are more than 16 whole revolutions.
 abbrev pub OutsideRange : Search → Type 0
 OutsideRange s = ((magnitudeOf (s .triangle .lambda) ≺ 1F) ≡ false) ⊎ (mostRevolutions < s .revolutions)
 
@@ -73,7 +75,7 @@ nothing-outside s g last h =
     all-unknown (sideAt s) g last (λ k. outside-by s k
     (⊎-elim (λ e. rw e) (λ l. or-true (not near) _ (rw (lt-ltb mostRevolutions (s .revolutions) l))) h))
 
--- ---- a wanted time that is no number is crossed nowhere
+-- ---- a wanted time that is a NaN: no crossing
 
 none-below-nan : (x : Float) → (x ≺ nan) ≡ false
 unfolding lt

@@ -1,5 +1,5 @@
--- What holds of every crossing's bracket: along the halving the interval stays within its pair, 2^(20−h) wide, with its ends on opposite
--- sides, and halving comes to no other interval at which it stops.
+-- What holds for the bracket of every crossing (`bracket-holds`). During the bisection the interval stays within its pair, is 2^(20−h)
+-- wide and has its ends on opposite sides. The bracket is the only interval that bisection reaches and stops at (`only-one`).
 use mathlib.Core.Path.{_≡_, refl, sym, ap, _∙_, subst}
 use mathlib.Core.Bool.{Bool, true, false, cond}
 use mathlib.Core.Logic.{_⊎_, inl, inr}
@@ -16,7 +16,7 @@ use Rattle.crossing_laws.specs.Brackets.{Comes, start, keeps-lower, keep
 use Rattle.bisection.proofs.Halving.{same-side, lower-known, upper-known, up-less, middle, top, up-twice, middle-is, stops-is, step}
 
 module _ (σ : ℤ → Side) (a b : ℤ) (initial : ℕ) where
-  -- the interval from x, of the width 2^n, in the halving of the pair from a to b
+  -- What holds for the interval from x of width 2^n, reached by the bisection of the pair from a to b after h halvings.
   record Along (x : ℤ) (n h : ℕ) : Type 0 where
     pub fromLower : ℕ
     pub lowerIs : x ≡ a +ℤ pos fromLower
@@ -27,7 +27,7 @@ module _ (σ : ℤ → Side) (a b : ℤ) (initial : ℕ) where
     pub ends : opposite (σ x) (σ (x +ℤ pos (2 ^ n))) ≡ true
     pub comes : Comes σ a b initial x (x +ℤ pos (2 ^ n)) h
 
-  -- where it stops
+  -- An interval where the bisection stops satisfies `IsBracket`.
   stopping : (x : ℤ) (n h : ℕ) → Along x n h →
       (x +ℤ pos (2 ^ n) ≡ x +ℤ pos 1) ⊎ (isUnknown (σ (middleOf x (x +ℤ pos (2 ^ n)))) ≡ true) → stops σ x (x +ℤ pos (2 ^ n)) ≡ true →
       IsBracket σ a b initial (record { lower = x; upper = x +ℤ pos (2 ^ n); halvings = h })
@@ -83,7 +83,7 @@ module _ (σ : ℤ → Side) (a b : ℤ) (initial : ℕ) where
               (keeps-upper (v .comes) (stops-is x n σ ∙ e) (rw (middle-is x n) o)));
         }
 
-  -- one step of the definition: it stops at a void middle, else it goes on in the half that still crosses
+  -- One step of the definition: it stops at a void middle, and otherwise it continues in the half whose ends are on opposite sides.
   choose : (x : ℤ) (n h : ℕ) (u o : Bool) (p q : Bracket) → Along x (suc n) h →
       isUnknown (σ (middle x n)) ≡ u → opposite (σ x) (σ (middle x n)) ≡ o →
       (Along x n (h + 1) → IsBracket σ a b initial p) → (Along (middle x n) n (h + 1) → IsBracket σ a b initial q) →
@@ -92,7 +92,7 @@ module _ (σ : ℤ → Side) (a b : ℤ) (initial : ℕ) where
   choose x n h false true p q v e d f g = f (lower-half x n h v e d)
   choose x n h false false p q v e d f g = g (upper-half x n h v e d)
 
-  -- every interval on the way ends in a bracket of the pair
+  -- From every interval that satisfies `Along`, the definition ends with a bracket of the pair.
   ends-in : (n h : ℕ) (x : ℤ) → Along x n h → IsBracket σ a b initial (bisectOf σ n h x (x +ℤ pos (2 ^ n)))
   unfolding bisectOf
   ends-in zero h x v = stopping x zero h v (inl refl) (rw (up-less x 1))
@@ -106,7 +106,7 @@ module _ (σ : ℤ → Side) (a b : ℤ) (initial : ℕ) where
       let chosen = choose x n h (isUnknown (σ (middle x n))) (opposite (σ x) (σ (middle x n))) lower upper v refl refl in
       subst (IsBracket σ a b initial) (sym (step x n σ h)) (chosen (ends-in n (h + 1) x) in-upper)
 
--- the bracket of a crossing is one, in any grid that rises
+-- In any grid that rises, the bracket of a crossing satisfies `IsBracket`.
 pub bracket-holds : (σ : ℤ → Side) (g : Grid) → IsRising g → (i : ℕ) → crosses σ g i ≡ true →
     IsBracket σ (g .place i) (g .place (i + 1)) (g .halvings i) (bracketOf σ g i)
 unfolding bracketOf crosses
@@ -124,16 +124,17 @@ bracket-holds σ g r i e =
       comes = start;
     }))
 
--- ---- no other interval
+-- ---- uniqueness of the bracket
 
 module _ (σ : ℤ → Side) (a : ℤ) (initial : ℕ) (few : initial ≤ 20) where
-  -- the definition, at an interval that the halving comes to
+  -- What holds for an interval that the bisection reaches: its width is 2^(20−h), and the definition gives the same bracket from there as
+  -- from the whole pair.
   record Follows (x y : ℤ) (h : ℕ) : Type 0 where
     pub most : h ≤ 20
     pub width : y ≡ x +ℤ pos (2 ^ (20 - h))
     pub goes : bisectOf σ (20 - initial) initial a (a +ℤ pos (2 ^ (20 - initial))) ≡ bisectOf σ (20 - h) h x y
 
-  -- an interval that does not stop is wider than 1
+  -- An interval where bisection does not stop is wider than 1, so it was halved fewer than 20 times.
   wider : (x y : ℤ) (h k : ℕ) → 20 - h ≡ k → y ≡ x +ℤ pos (2 ^ k) → stops σ x y ≡ false → h < 20
   wider x y h zero e w s =
       let t : stops σ x y ≡ true = rw (w, up-less x 1) in
@@ -179,7 +180,7 @@ module _ (σ : ℤ → Side) (a : ℤ) (initial : ℕ) (few : initial ≤ 20) wh
   follows x y h (keeps-lower c s o) = lower-follows (follows _ _ _ c) s o
   follows x y h (keeps-upper c s o) = upper-follows (follows _ _ _ c) s o
 
-  -- how wide an interval is that the halving comes to
+  -- The width of an interval that the bisection reaches.
   pub width-at : (x y : ℤ) (h : ℕ) → Comes σ a (a +ℤ pos (2 ^ (20 - initial))) initial x y h → (h ≤ 20) × (y ≡ x +ℤ pos (2 ^ (20 - h)))
   width-at x y h c = (follows x y h c .most, follows x y h c .width)
 
@@ -193,7 +194,7 @@ module _ (σ : ℤ → Side) (g : Grid) (r : IsRising g) (i : ℕ) (x y : ℤ) (
   moved : Comes σ (g .place i) (g .place i +ℤ pos (2 ^ (20 - g .halvings i))) (g .halvings i) x y h
   moved = subst (λ (z : ℤ). Comes σ (g .place i) z (g .halvings i) x y h) (r .next i) c
 
-  -- an interval that the halving of a pair comes to and stops at is the pair's bracket
+  -- An interval that the bisection of a pair reaches and stops at is the bracket of the pair.
   pub only-one : stops σ x y ≡ true → bracketOf σ g i ≡ record { lower = x; upper = y; halvings = h }
   unfolding bracketOf
   only-one e =
@@ -201,11 +202,11 @@ module _ (σ : ℤ → Side) (g : Grid) (r : IsRising g) (i : ℕ) (x y : ℤ) (
       let stays = at-stop σ (g .place i) (g .halvings i) (r .most i) (20 - h) h x y e in
       rw (r .next i) (comes ∙ stays)
 
-  -- every interval that the halving of a pair comes to has the width 2^(20−h); while it is wider than 1, its middle is halfway and
-  -- strictly inside
+  -- Every interval that the bisection of a pair reaches is 2^(20−h) wide.
   pub comes-width : (h ≤ 20) × (y ≡ x +ℤ pos (2 ^ (20 - h)))
   comes-width = width-at σ (g .place i) (g .halvings i) (r .most i) x y h moved
 
+  -- While such an interval is wider than 1, its middle is halfway between the ends, strictly inside.
   pub comes-middle : h < 20 → (middleOf x y ≡ x +ℤ pos (2 ^ (19 - h))) × (y ≡ middleOf x y +ℤ pos (2 ^ (19 - h)))
   comes-middle l =
       let e : 20 - h ≡ suc (19 - h) = omega (arith, l) in

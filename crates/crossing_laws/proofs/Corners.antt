@@ -1,4 +1,5 @@
--- Sides word for word, and 01's corners: over any place at each k, any wanted time and any grid.
+-- The three sides as 01 defines them (`below-exactly`, `not-below-exactly`, `unknown-exactly`), and 01's corner cases of crossings. They
+-- hold for any time or void at each k, any wanted time and any grid.
 use mathlib.Core.Path.{_≡_, refl, sym}
 use mathlib.Core.Bool.{Bool, true, false, cond}
 use mathlib.Core.Logic.{_↔_}
@@ -20,10 +21,11 @@ use Rattle.crossing_laws.proofs.Theorems.{none-exactly}
 
 -- ---- sides
 
--- the place has a time T with T < T*, and one without T < T*
+-- The place has a time T, and T < T*.
 abbrev pub TimedBelow : Place → Float → Type 0
 TimedBelow p w = (t : Float) × ((p ≡ Timed t) × ((t ≺ w) ≡ true))
 
+-- The place has a time T, and T < T* is false.
 abbrev pub TimedNotBelow : Place → Float → Type 0
 TimedNotBelow p w = (t : Float) × ((p ≡ Timed t) × ((t ≺ w) ≡ false))
 
@@ -63,7 +65,7 @@ unfolding sideOf
 unknown-exactly (Timed t) w = (λ e. no-side (sym e) refl (known-by (t ≺ w)), λ h. no-place (sym h))
 unknown-exactly Void w = (λ e. refl, λ h. refl)
 
--- two sides of which none is below are not opposite
+-- Two sides are not opposite if neither is below.
 pub none-below : (a b : Side) → (a ≡ Below → ⊥) → (b ≡ Below → ⊥) → opposite a b ≡ false
 none-below Below b f g = absurd (f refl)
 none-below NotBelow Below f g = absurd (g refl)
@@ -71,20 +73,22 @@ none-below NotBelow NotBelow f g = refl
 none-below NotBelow Unknown f g = refl
 none-below Unknown b f g = refl
 
--- ---- corners: the place at each k, and the wanted time
+-- ---- corner cases
 
--- the side of each place
+-- The side of each place, given the time or void at each k and the wanted time.
 abbrev pub sides : (ℤ → Place) → Float → ℤ → Side
 sides τ w k = sideOf (τ k) w
 
 module _ (τ : ℤ → Place) (w : Float) (g : Grid) where
-  -- place i has a time below the wanted one, above it, or equal to it
+  -- Place i has a time below the wanted time.
   abbrev pub IsBelow : ℕ → Type 0
   IsBelow i = TimedBelow (τ (g .place i)) w
 
+  -- Place i has a time above the wanted time.
   abbrev pub IsAbove : ℕ → Type 0
   IsAbove i = (t : Float) × ((τ (g .place i) ≡ Timed t) × ((w ≺ t) ≡ true))
 
+  -- Place i has a time equal to the wanted time.
   abbrev pub IsEqual : ℕ → Type 0
   IsEqual i = (t : Float) × ((τ (g .place i) ≡ Timed t) × ((t ≈ w) ≡ true))
 
@@ -97,7 +101,7 @@ module _ (τ : ℤ → Place) (w : Float) (g : Grid) where
   on-equal : (i : ℕ) → IsEqual i → sides τ w (g .place i) ≡ NotBelow
   on-equal i h = not-below-exactly (τ (g .place i)) w .1 (h .0, (h .1 .0, equal-not-below (h .0) w (h .1 .1)))
 
-  -- a station equal to T* on a slope makes one crossing, not two
+  -- On a slope, a station with the time T* makes one crossing, not two.
   pub rising-slope : (i : ℕ) → IsBelow i → IsEqual (i + 1) → IsAbove (i + 1 + 1) →
       (crosses (sides τ w) g i ≡ true) × (crosses (sides τ w) g (i + 1) ≡ false)
   unfolding crosses
@@ -108,19 +112,19 @@ module _ (τ : ℤ → Place) (w : Float) (g : Grid) where
   unfolding crosses
   falling-slope i a b c = (rw (on-above i a, on-equal (i + 1) b), rw (on-equal (i + 1) b, on-below (i + 1 + 1) c))
 
-  -- a dip that only touches T* makes none
+  -- A dip that reaches T* but does not go below it makes no crossing.
   pub touching-dip : (i : ℕ) → IsAbove i → IsEqual (i + 1) → IsAbove (i + 1 + 1) →
       (crosses (sides τ w) g i ≡ false) × (crosses (sides τ w) g (i + 1) ≡ false)
   unfolding crosses
   touching-dip i a b c = (rw (on-above i a, on-equal (i + 1) b), rw (on-equal (i + 1) b, on-above (i + 1 + 1) c))
 
-  -- a single station equal to T* between two below makes two
+  -- A single station with the time T* between two stations below makes two crossings.
   pub equal-between : (i : ℕ) → IsBelow i → IsEqual (i + 1) → IsBelow (i + 1 + 1) →
       (crosses (sides τ w) g i ≡ true) × (crosses (sides τ w) g (i + 1) ≡ true)
   unfolding crosses
   equal-between i a b c = (rw (on-below i a, on-equal (i + 1) b), rw (on-equal (i + 1) b, on-below (i + 1 + 1) c))
 
-  -- a last station equal to T* with none below makes none
+  -- If the last station has the time T* and no station is below, there is no crossing.
   pub equal-last : (last : ℕ) → IsEqual last → ((i : ℕ) → i ≤ last → IsBelow i → ⊥) → sweepOf (sides τ w) g last .count ≡ 0
   unfolding crosses
   equal-last last e f =

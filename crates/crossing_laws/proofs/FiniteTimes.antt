@@ -1,4 +1,5 @@
--- A place's time is a finite number (`timed-finite`), never an infinity or a NaN.
+-- If a place has a time, that time is finite (`timed-finite`), never an infinity or a NaN. The proof follows the steps of `timeOf`. The
+-- last step makes the place void if its time is not finite.
 use Prim.Native.Nat.{ℕ}
 use mathlib.Core.Path.{_≡_, refl, subst}
 use mathlib.Core.Bool.{Bool, true, false, not}
@@ -18,7 +19,7 @@ use Rattle.hypergeometric.specs.declared.results.HalfAngles.the-variants.{Known
 use Rattle.flight_time.specs.declared.Place.{Place}
 use Rattle.flight_time.specs.declared.Place.the-variants.{Timed, Void}
 
--- what holds of the time of a place, wherever it has one
+-- If the place has a time, that time is finite.
 abbrev Finite : Place → Type 0
 Finite p = (time : Float) → p ≡ Timed time → finiteOf time ≡ true
 

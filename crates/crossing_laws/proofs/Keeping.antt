@@ -1,4 +1,6 @@
--- What `keep` and `some` leave of the numbers below n: exactly those that pass, rising; and whether there is one.
+-- The list `upTo n` holds exactly the numbers below n, and it rises (`listed-up`, `up-listed`, `rising-up`). `keep` takes exactly the
+-- numbers of a list that pass a test (`kept`, `keeps`), and its result rises if the list does (`rising-keep`). `some` says whether some
+-- number passes (`some-yes`, `some-found`).
 use mathlib.Core.Path.{_≡_, refl, sym, ap, _∙_, subst}
 use mathlib.Core.Bool.{Bool, true, false, cond, _||_}
 use mathlib.Core.Logic.{_⊎_, inl, inr, ⊎-elim}
@@ -9,7 +11,7 @@ use native.Mathlib.Nat.{eq-or-lt-of-le}
 use Rattle.sweep.specs.Crossings.{upTo, keep, some}
 use Rattle.crossing_laws.specs.Listed.{Listed, Rising}
 
--- ---- one number more at the end
+-- ---- one more number at the end of a list
 
 listed-snoc : (i x : ℕ) (xs : List ℕ) → Listed i (xs ++ (x ∷ [])) → Listed i xs ⊎ (i ≡ x)
 unfolding Listed
@@ -34,7 +36,7 @@ rising-snoc x (y ∷ ys) r f = (
   rising-snoc x ys (r .1) (λ i h. f i (inr h)),
 )
 
--- ---- 0, 1, .., n - 1
+-- ---- the list 0, 1, .., n - 1
 
 pub listed-up : (i n : ℕ) → Listed i (upTo n) → i < n
 unfolding upTo Listed
@@ -59,7 +61,7 @@ unfolding upTo Rising
 rising-up zero = tt
 rising-up (suc n) = rising-snoc n (upTo n) (rising-up n) (λ i h. listed-up i n h)
 
--- ---- those that pass
+-- ---- the numbers that pass a test
 
 module _ (p : ℕ → Bool) where
   kept-by : (b : Bool) (i x : ℕ) (xs : List ℕ) → p x ≡ b → (Listed i (keep p xs) → Listed i xs × (p i ≡ true)) →
@@ -95,7 +97,7 @@ module _ (p : ℕ → Bool) where
   rising-keep [] r = tt
   rising-keep (x ∷ xs) r = rising-by (p x) x xs (r .0) (rising-keep xs (r .1))
 
-  -- ---- whether some passes
+  -- ---- whether some number passes a test
 
   or-left : (b c : Bool) → b ≡ true → b || c ≡ true
   or-left true c e = refl

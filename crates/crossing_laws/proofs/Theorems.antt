@@ -1,5 +1,5 @@
--- What the sweep's definition says, in words that a person can hold beside 01: over any side of each place and any grid, for its places
--- from 0 to `last`. The brackets' own theorems are `bracket-holds` and `only-one` in BracketLaws.
+-- The theorems about a sweep, in terms that a person can compare with 01. They hold for any sides of the places, any grid, and its places
+-- from 0 to `last`. The theorems about brackets are `bracket-holds` and `only-one` in BracketLaws.
 use mathlib.Core.Path.{_≡_, refl, sym, ap, _∙_, subst}
 use mathlib.Core.Bool.{Bool, true, false}
 use mathlib.Core.Logic.{inl, inr, ⊎-elim, _↔_}
@@ -30,11 +30,11 @@ use Rattle.stations.proofs.Places.{next-station}
 use Rattle.crossing_laws.proofs.BracketLaws.{bracket-holds}
 use Rattle.crossing_laws.proofs.Keeping.{listed-up, up-listed, rising-up, kept, keeps, rising-keep, some-yes, some-found}
 
--- no Boolean is both
+-- No Boolean is both true and false.
 pub clash : {P : Type 0} {b : Bool} → b ≡ true → b ≡ false → P
 clash e f = absurd (let z : _≡_ {A = ℕ} 0 1 = cc (e, f) in omega (arith, z))
 
--- ---- stations: j from −4095, 2^20 apart, to 16384 for M = 0, and to 4095 for M ≥ 1
+-- ---- stations: j from −4095, 2^20 apart, to 16384 for M = 0 and to 4095 for M ≥ 1
 
 pub first-station : stationOf 0 ≡ negℤ (pos (4095 * 2 ^ 20))
 unfolding stationOf
@@ -55,7 +55,7 @@ last-revolving revolutions h = ap stationOf (revolving revolutions h)
 pub neighbours : (i : ℕ) → stationOf (i + 1) ≡ stationOf i +ℤ pos (2 ^ 20)
 neighbours i = next-station i
 
--- they begin and end where the range of the time does
+-- The first and the last station are the ends of the range of the time.
 pub from-lowest : stationOf 0 ≡ lowest
 unfolding stationOf
 from-lowest = refl
@@ -67,7 +67,7 @@ to-highest = refl
 pub to-highest-revolving : (revolutions : ℕ) → 1 ≤ revolutions → stationOf (lastOf revolutions) ≡ highestRevolving
 to-highest-revolving revolutions h = last-revolving revolutions h
 
--- 20,480 stations for M = 0, and 8,191 for M ≥ 1
+-- There are 20,480 stations for M = 0, and 8,191 for M ≥ 1.
 pub station-count : lastOf 0 + 1 ≡ 20480
 unfolding lastOf
 station-count = refl
@@ -101,7 +101,7 @@ crosses-exactly σ g i =
       λ h. opposite-by a b (opposite a b) refl (h .0) (h .1) (h .2),
     )
 
--- ---- how a walk ends, by its two tests
+-- ---- the end of a walk, from its two conditions
 
 walk-ninth : (ninth void : Bool) → walkOf ninth void ≡ NinthFound → ninth ≡ true
 walk-ninth true void e = refl
@@ -122,7 +122,7 @@ pub false-by : (b : Bool) → (b ≡ true → ⊥) → b ≡ false
 false-by true f = absurd (f refl)
 false-by false f = refl
 
--- ---- places of a list
+-- ---- the elements of a list of brackets
 
 any-default : (l : List Bracket) (e : ℕ) (c d : Bracket) → e < length l → getD l e c ≡ getD l e d
 any-default [] e c d h = absurd (omega arith)
@@ -139,7 +139,7 @@ padded [] n e h = all-blank n e
 padded (x ∷ xs) n zero h = absurd (omega arith)
 padded (x ∷ xs) n (suc e) h = padded xs n e (omega arith)
 
--- ---- which place of a list a number has
+-- ---- the position of a number in a list
 
 listed-at : (e : ℕ) (xs : List ℕ) → e < length xs → Listed (getD xs e 0) xs
 unfolding Listed
@@ -162,7 +162,7 @@ rising-at e zero (x ∷ xs) r l h = absurd (omega arith)
 rising-at zero (suc f) (x ∷ xs) r l h = r .0 (getD xs f 0) (listed-at f xs (omega arith))
 rising-at (suc e) (suc f) (x ∷ xs) r l h = rising-at e f xs (r .1) (omega arith) (omega arith)
 
--- ---- brackets of different pairs
+-- ---- the order of the brackets of different pairs
 
 places-up : (g : Grid) → IsRising g → (i n : ℕ) → (d : ℕ) × (g .place (i + n) ≡ g .place i +ℤ pos d)
 places-up g r i zero = (0, rw add-zero (sym (+ℤ-idr (g .place i))))
@@ -195,7 +195,7 @@ pairs-rise σ g r i j l p q =
     )
 
 module _ (σ : ℤ → Side) (g : Grid) (last : ℕ) where
-  -- among all crossings a pair stands exactly when it crosses
+  -- A pair is in the list of crossings exactly if it is among the places up to `last` and crosses.
   pub listed-exactly : (i : ℕ) → Listed i (crossings σ g last) ↔ ((i < last) × (crosses σ g i ≡ true))
   unfolding crossings
   listed-exactly i = (
@@ -203,19 +203,19 @@ module _ (σ : ℤ → Side) (g : Grid) (last : ℕ) where
     λ h. keeps (crosses σ g) i (upTo last) (h .1) (up-listed i last (h .0)),
   )
 
-  -- they rise
+  -- The list of crossings rises.
   pub rises : Rising (crossings σ g last)
   unfolding crossings
   rises = rising-keep (crosses σ g) (upTo last) (rising-up last)
 
-  -- how many there are
+  -- The count is the number of crossings, but at most eight. There are as many brackets as crossings.
   count-is : sweepOf σ g last .count ≡ min 8 (length (crossings σ g last))
   count-is = counted σ g last
 
   as-many : length (brackets σ g last) ≡ length (crossings σ g last)
   as-many = length-is σ g last
 
-  -- eight places: the used ones hold the brackets of the crossings, in their order, and the others zeros
+  -- The list has eight elements. The used ones hold the brackets of the crossings in their order, and the others hold zeros.
   pub eight-places : length (sweepOf σ g last .list) ≡ 8
   unfolding sweepOf reported
   eight-places =
@@ -242,7 +242,7 @@ module _ (σ : ℤ → Side) (g : Grid) (last : ℕ) where
       let used = take 8 (brackets σ g last) in
       padded used (8 - length used) e (rw (length-take 8 (brackets σ g last)) h)
 
-  -- every used place holds the bracket of a pair that crosses; and where there are at most eight crossings, each has its place
+  -- Every used element holds the bracket of a pair that crosses. If there are at most eight crossings, each of them has its element.
   pub only-crossings : (e : ℕ) → e < sweepOf σ g last .count →
       (i : ℕ) × ((i < last) × (crosses σ g i ≡ true) × (getD (sweepOf σ g last .list) e blank ≡ bracketOf σ g i))
   only-crossings e h =
@@ -258,7 +258,7 @@ module _ (σ : ℤ → Side) (g : Grid) (last : ℕ) where
       let b : p .0 < sweepOf σ g last .count = rw count-is (omega (arith, p .1 .0, few)) in
       (p .0, (b, in-order (p .0) b ∙ ap (bracketOf σ g) (p .1 .1)))
 
-  -- the places of the list rise in x: the upper end of one is at most the lower end of any later one
+  -- If the grid rises, the elements of the list rise in x: the upper end of one is at most the lower end of any later one.
   pub places-rise : IsRising g → (e f : ℕ) → e < f → f < sweepOf σ g last .count →
       (d : ℕ) × (getD (sweepOf σ g last .list) f blank .lower ≡ getD (sweepOf σ g last .list) e blank .upper +ℤ pos d)
   places-rise w e f l h =
@@ -273,7 +273,7 @@ module _ (σ : ℤ → Side) (g : Grid) (last : ℕ) where
       let r = pairs-rise σ g w i j (rising-at e f all rises l k) first second in
       (r .0, rw (in-order e lower, in-order f h) (r .1))
 
-  -- a ninth is reported exactly when there are more than eight
+  -- `NinthFound` is reported exactly if there are more than eight crossings.
   pub ninth-exactly : (sweepOf σ g last .walk ≡ NinthFound) ↔ (8 < length (crossings σ g last))
   unfolding sweepOf reported
   ninth-exactly = (
@@ -281,7 +281,7 @@ module _ (σ : ℤ → Side) (g : Grid) (last : ℕ) where
     λ h. rw (as-many, lt-ltb 8 (length (crossings σ g last)) h),
   )
 
-  -- some place is void: exactly that, over all places, wherever there is no ninth crossing
+  -- `someVoid` is true exactly if some place from 0 to `last` is void.
   pub void-at : (i : ℕ) → i ≤ last → isUnknown (σ (g .place i)) ≡ true → someVoid σ g last ≡ true
   unfolding someVoid
   void-at i h e = some-yes (λ j. isUnknown (σ (g .place j))) i (upTo (last + 1)) (up-listed i (last + 1) (omega arith)) e
@@ -299,6 +299,7 @@ module _ (σ : ℤ → Side) (g : Grid) (last : ℕ) where
   few : ninth ≡ false → length (crossings σ g last) ≤ 8
   few e = subst (λ (n : ℕ). n ≤ 8) as-many (ltb-false 8 (length (brackets σ g last)) e)
 
+  -- `SomeVoid` is reported exactly if there are at most eight crossings and some place is void.
   pub void-exactly : (sweepOf σ g last .walk ≡ SomeVoid)
       ↔ ((length (crossings σ g last) ≤ 8) × ((i : ℕ) × ((i ≤ last) × (isUnknown (σ (g .place i)) ≡ true))))
   unfolding sweepOf reported
@@ -307,10 +308,11 @@ module _ (σ : ℤ → Side) (g : Grid) (last : ℕ) where
     λ h. rw (as-many, le-ltb 8 (length (crossings σ g last)) (h .0), void-at (h .1 .0) (h .1 .1 .0) (h .1 .1 .1)),
   )
 
-  -- no place is void
+  -- If every place has a time, `someVoid` is false.
   all-timed : ((i : ℕ) → i ≤ last → isUnknown (σ (g .place i)) ≡ false) → someVoid σ g last ≡ false
   all-timed f = false-by (someVoid σ g last) (λ e. let v = at-void e in clash (v .1 .1) (f (v .0) (v .1 .0)))
 
+  -- `AllTimed` is reported exactly if there are at most eight crossings and every place has a time.
   pub timed-exactly : (sweepOf σ g last .walk ≡ AllTimed)
       ↔ ((length (crossings σ g last) ≤ 8) × ((i : ℕ) → i ≤ last → isUnknown (σ (g .place i)) ≡ false))
   unfolding sweepOf reported
@@ -321,7 +323,6 @@ module _ (σ : ℤ → Side) (g : Grid) (last : ℕ) where
     λ h. rw (as-many, le-ltb 8 (length (crossings σ g last)) (h .0), all-timed (h .1)),
   )
 
-  -- no place of the list is used exactly when no pair crosses
   empty-by : (xs : List ℕ) → ((i : ℕ) → Listed i xs → ⊥) → length xs ≡ 0
   unfolding Listed
   empty-by [] f = refl
@@ -332,6 +333,7 @@ module _ (σ : ℤ → Side) (g : Grid) (last : ℕ) where
   not-listed i [] e h = h
   not-listed i (x ∷ xs) e h = omega (arith, e)
 
+  -- The count is 0 exactly if no pair crosses.
   pub none-exactly : (sweepOf σ g last .count ≡ 0) ↔ ((i : ℕ) → i < last → crosses σ g i ≡ false)
   none-exactly = (
     λ e i h.

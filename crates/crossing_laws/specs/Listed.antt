@@ -1,15 +1,15 @@
--- What is said of a list of numbers: which stand in it, and that it rises.
+-- Properties of a list of numbers: which numbers are in it, and that it rises.
 use mathlib.Core.Path.{_≡_}
 use mathlib.Core.Logic.{_⊎_}
 use mathlib.Core.List.{List, [], _∷_}
 use Prim.Native.Nat.{ℕ, _<_}
 
--- i stands in a list
+-- The number i is in the list.
 unfoldable pub Listed : ℕ → List ℕ → Type 0
 Listed i [] = ⊥
 Listed i (x ∷ xs) = (i ≡ x) ⊎ Listed i xs
 
--- each number is below all that come after it
+-- Each number is below all numbers after it.
 unfoldable pub Rising : List ℕ → Type 0
 Rising [] = Unit {0}
 Rising (x ∷ xs) = ((i : ℕ) → Listed i xs → x < i) × Rising xs

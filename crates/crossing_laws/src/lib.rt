@@ -1,3 +1,3 @@
-// What holds of times, brackets and crossings (01, Stations, sides, crossings), said without the steps
-// that find them. Definitions and theorems about `flight_time`, `bisection` and `sweep`; there is no
-// code here.
+// Laws about times, brackets and crossings (01, Stations, sides, crossings), stated without the
+// steps that compute them. This crate has definitions and theorems about `flight_time`, `bisection`
+// and `sweep`, and no code.
