@@ -6,14 +6,15 @@ use Rattle.float64.specs.Value.{magnitudeOf, finiteOf}
 use Rattle.float64.specs.declared.Vector.{Vector}
 use Rattle.velocity.specs.declared.Velocities.{Velocities}
 
--- whether the upper end is chosen, of the times at the lower end and at the upper and of the wanted time: it has the
--- smaller |T − T*|; a tie takes the lower, and so does a comparison with a NaN
+-- Whether the upper end is chosen, given the time at the lower end, the time at the upper end, and the wanted time: it is chosen if it
+-- has the smaller |T − T*|. A tie takes the lower end, and so does a comparison with a NaN.
 unfoldable pub upperChosen : Float → Float → Float → Bool
 upperChosen lower upper wanted = magnitudeOf (upper ⊖ wanted) ≺ magnitudeOf (lower ⊖ wanted)
 
--- a velocity is finite when its three components are
+-- Whether a velocity is finite, that is, whether its three components are.
 unfoldable pub vectorFinite : Vector → Bool
 vectorFinite v = finiteOf (v .x) && (finiteOf (v .y) && finiteOf (v .z))
 
+-- Whether both velocities are finite.
 unfoldable pub velocitiesFinite : Velocities → Bool
 velocitiesFinite w = vectorFinite (w .v1) && vectorFinite (w .v2)

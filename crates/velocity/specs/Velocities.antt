@@ -11,15 +11,15 @@ use Rattle.flight_time.specs.Steps.{xOf, uOf}
 use Rattle.velocity.specs.declared.Speeds.{Speeds}
 use Rattle.velocity.specs.declared.Velocities.{Velocities}
 
--- γ = √((mu·s)/2); NaN where that root is refused
+-- γ = √((mu·s)/2), or NaN if that root is refused.
 unfoldable pub gammaOf : Float → Float → Float
 gammaOf mu s = rootOrNan ((mu ⊗ s) ⊘ 2F)
 
--- y of step 2 of the time, at x; NaN where its root is refused, where the place has no time
+-- y of step 2 of the time, at x, or NaN if its root is refused. In that case the place has no time.
 unfoldable pub yOrNan : Float → Float → Float
 yOrNan L x = orNan (yOf L (uOf x))
 
--- the radial and transverse speeds at both ends, with a = L·y − x and b = L·y + x
+-- The radial and transverse speeds at departure and at arrival, with a = L·y − x and b = L·y + x.
 unfoldable pub speedsOf : Float → Triangle → Float → Float → Float → Float → Speeds
 speedsOf γ t r1 r2 x y =
     let a = t .lambda ⊗ y ⊖ x in
@@ -32,7 +32,7 @@ speedsOf γ t r1 r2 x y =
       transverse2 = across ⊘ r2;
     }
 
--- v = radial·u + transverse·t by component, with t = n × u
+-- v = radial·u + transverse·t by component, with t = n × u.
 unfoldable pub velocityOf : Float → Float → Vector → Vector → Vector
 velocityOf radial transverse n u =
     let t = cross n u in
@@ -42,7 +42,7 @@ velocityOf radial transverse n u =
       z = radial ⊗ u .z ⊕ transverse ⊗ t .z;
     }
 
--- v1 and v2 at the place k
+-- v1 and v2 at place k.
 unfoldable pub velocitiesOf : Float → Triangle → Float → Float → Frame → ℤ → Velocities
 velocitiesOf mu t r1 r2 f k =
     let x = xOf k in

@@ -1,10 +1,10 @@
-// Which end of a bracket is chosen, and whether the velocities there are finite.
+// The choice of an end of a bracket, and the test whether the velocities there are finite.
 ghost use mathlib.Core.Path.{_≡_};
 ghost use Rattle.velocity.specs.Chosen.{upperChosen, vectorFinite, velocitiesFinite};
 use crate::Velocities;
 use float64::Vector;
 
-// Whether the upper end's time is strictly nearer to the wanted one than the lower end's.
+// Reports whether the upper end's time is strictly nearer to the wanted time than the lower end's.
 pub fn upper_chosen(lower: f64, upper: f64, wanted: f64) -> bool
     ensures { λ r. ⌜ r ≡ upperChosen lower upper wanted ⌝ }
 {
@@ -17,6 +17,7 @@ fn is_finite(v: Vector) -> bool
     float64::is_finite(v.x) & (float64::is_finite(v.y) & float64::is_finite(v.z))
 }
 
+// Reports whether all components of both velocities are finite.
 pub fn are_finite(w: Velocities) -> bool
     ensures { λ r. ⌜ r ≡ velocitiesFinite w ⌝ }
 {

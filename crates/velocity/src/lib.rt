@@ -1,5 +1,5 @@
-// The terminal velocities at a place of a triangle (01, Velocities), and which end of a bracket they
-// are taken at. Each function takes any numbers.
+// The terminal velocities at a place of a triangle (01, Velocities), and the choice of the
+// bracket's end where they are taken. Every function accepts any numbers.
 ghost use mathlib.Core.Path.{_≡_};
 ghost use Rattle.velocity.specs.Velocities.{gammaOf, yOrNan, speedsOf, velocityOf, velocitiesOf};
 
@@ -11,7 +11,7 @@ use float64::Vector;
 use geometry::Frame;
 use geometry::Triangle;
 
-// The radial and transverse speeds at departure and at arrival.
+// The radial and transverse speeds at departure (1) and at arrival (2).
 pub(crate) struct Speeds {
     pub(crate) radial1: f64,
     pub(crate) radial2: f64,
@@ -19,12 +19,13 @@ pub(crate) struct Speeds {
     pub(crate) transverse2: f64,
 }
 
-// The velocities at departure and at arrival, in km/s.
+// The velocities at departure (v1) and at arrival (v2), in km/s.
 pub struct Velocities {
     pub v1: Vector,
     pub v2: Vector,
 }
 
+// Returns the terminal velocities, at departure and at arrival, for place k of a triangle.
 pub fn velocities_at(
     mu: f64,
     triangle: Triangle,
@@ -79,7 +80,8 @@ fn speeds_at(gamma: f64, t: Triangle, radius1: f64, radius2: f64, x: f64, y: f64
     }
 }
 
-// A radial speed along the unit vector and a transverse one across it, in the plane.
+// Returns the velocity with the given radial speed along the unit vector and the given transverse
+// speed across it, in the plane of the given normal.
 fn velocity_along(radial: f64, transverse: f64, normal: Vector, unit: Vector) -> Vector
     ensures { λ r. ⌜ r ≡ velocityOf radial transverse normal unit ⌝ }
 {

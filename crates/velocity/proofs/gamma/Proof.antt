@@ -1,4 +1,4 @@
--- `gamma` meets its contract, by what its calls ensure.
+-- `gamma` meets its contract: this follows from the contract of the function that it calls.
 use Rattle.velocity.specs.Velocities.{gammaOf}
 use borrow.Author.Needs.{needs}
 use Rattle.velocity.proofs.gamma.Statement.{statement}

@@ -1,4 +1,4 @@
--- `speeds_at` meets its contract: the code's operations are the definition's.
+-- `speeds_at` meets its contract: the code and the definition perform the same operations.
 use mathlib.Core.Path.{refl}
 use Rattle.velocity.specs.Velocities.{speedsOf}
 use Rattle.velocity.proofs.speeds_at.Statement.{statement}

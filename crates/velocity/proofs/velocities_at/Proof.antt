@@ -1,4 +1,4 @@
--- `velocities_at` meets its contract: what its calls ensure, put together.
+-- `velocities_at` meets its contract: this follows from the contracts of the functions that it calls.
 use mathlib.Core.Path.{_≡_}
 use mir.Facts.{toZ-ofZ}
 use Rattle.flight_time.specs.Steps.{xOf}
@@ -7,7 +7,7 @@ use borrow.Author.Needs.{needs}
 use Rattle.velocity.proofs.velocities_at.Statement.{statement}
 use Rattle.velocity.proofs.velocities_at.Tie as tie
 
--- what `x_at` ensures, of k itself: what the machine reads back from the bits of k is k
+-- `x_at` returns the x of k: the machine stores k in 64 bits and reads back the same k.
 x-is : (c : tie.After-x-at) → c .x-at .result ≡ xOf (c .before .args .k)
 x-is c = rw (toZ-ofZ (c .before .fits .k)) at (c .x-at .ensures)
 

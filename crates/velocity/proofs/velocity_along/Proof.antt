@@ -1,4 +1,4 @@
--- `velocity_along` meets its contract, by what its calls ensure.
+-- `velocity_along` meets its contract: this follows from the contract of the function that it calls.
 use Rattle.velocity.specs.Velocities.{velocityOf}
 use borrow.Author.Needs.{needs}
 use Rattle.velocity.proofs.velocity_along.Statement.{statement}

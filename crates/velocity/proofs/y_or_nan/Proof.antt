@@ -1,4 +1,4 @@
--- `y_or_nan` meets its contract, by what its calls ensure.
+-- `y_or_nan` meets its contract: this follows from the contracts of the functions that it calls.
 use Rattle.velocity.specs.Velocities.{yOrNan}
 use borrow.Author.Needs.{needs}
 use Rattle.velocity.proofs.y_or_nan.Statement.{statement}

@@ -1,4 +1,4 @@
--- `chosen::are_finite` meets its contract, by what its calls ensure.
+-- `chosen::are_finite` meets its contract: this follows from the contracts of the functions that it calls.
 use Rattle.velocity.specs.Chosen.{velocitiesFinite}
 use borrow.Author.Needs.{needs}
 use Rattle.velocity.proofs.chosen.are_finite.Statement.{statement}

@@ -1,4 +1,4 @@
--- `chosen::is_finite` meets its contract, by what its calls ensure.
+-- `chosen::is_finite` meets its contract: this follows from the contracts of the functions that it calls.
 use Rattle.velocity.specs.Chosen.{vectorFinite}
 use borrow.Author.Needs.{needs}
 use Rattle.velocity.proofs.chosen.is_finite.Statement.{statement}

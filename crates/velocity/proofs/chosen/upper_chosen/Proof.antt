@@ -1,4 +1,4 @@
--- `chosen::upper_chosen` meets its contract, by what its calls ensure.
+-- `chosen::upper_chosen` meets its contract: this follows from the contracts of the functions that it calls.
 use Rattle.velocity.specs.Chosen.{upperChosen}
 use borrow.Author.Needs.{needs}
 use Rattle.velocity.proofs.chosen.upper_chosen.Statement.{statement}
