@@ -1,5 +1,5 @@
--- The chosen end of a bracket's entry is 0 or 1 (`entry-names`), and the entry fits its fields on the wire where the bracket's lower end
--- and its halvings do (`bracket-entry-held`): a velocity's components are results of rounded sums.
+-- The chosen end of a bracket's entry is 0 or 1 (`entry-names`). The entry fits its fields on the wire if the bracket's lower end and
+-- halvings do (`bracket-entry-held`). The components of a velocity always fit, because they are results of rounded sums.
 use mathlib.Core.Bool.{Bool, true, false}
 use Prim.Native.Nat.{_^_, _≤_, _<_}
 use native.Mathlib.Omega.{arith}

@@ -1,6 +1,6 @@
--- Lists of brackets and of entries: what one more adds (`every-next`, `places-next`), that a count is cut at the places of a list
--- (`take-cut-count`), that the entries in their places are found again (`taken-again`), and that all entries are finite where those of
--- the brackets are (`every-entry`).
+-- Lists of brackets and of entries: what one more element adds (`every-next`, `places-next`), that a count can be cut to the size of the
+-- list (`take-cut-count`), that the used elements of the list are the entries again (`taken-again`), and that all entries are finite
+-- exactly if `finiteFor` holds for all of their brackets (`every-entry`).
 use mathlib.Core.Path.{_≡_, refl, sym, ap, _∙_}
 use mathlib.Core.Bool.{Bool, true, false, _&&_, and-assoc, and-true}
 use mathlib.Core.List.{List, [], _∷_, _++_, map, append-nil}
@@ -18,7 +18,7 @@ use Rattle.entrance.specs.declared.Problem.{Problem}
 use Rattle.bisection.specs.declared.Bracket.{Bracket}
 use Rattle.entries.specs.Entries.{entryFor, unused, places, entryFinite, finiteFor, every}
 
--- ---- of any list
+-- ---- lists of any type
 
 module _ {A : Type 0} where
   every-snoc : (test : A → Bool) (xs : List A) (x : A) → every test (xs ++ (x ∷ [])) ≡ every test xs && test x
@@ -34,9 +34,9 @@ module _ {A : Type 0} where
   pub take-cut-count : (xs : List A) (count : ℕ) → length xs ≡ mostEntries → take (min count mostEntries) xs ≡ take count xs
   take-cut-count xs count e = ap (λ (k : ℕ). take (min count k) xs) (sym e) ∙ take-cut count xs
 
--- ---- the entries in their places
+-- ---- the list of entries with its unused elements
 
--- one more entry at the end of the used places
+-- Writing an entry to the first unused element appends it to the used ones.
 places-set : (es : List Entry) (e : Entry) → length es < mostEntries → set (places es) (length es) e ≡ places (es ++ (e ∷ []))
 places-set es e h =
     let rest = mostEntries - suc (length es) in
@@ -47,7 +47,7 @@ places-set es e h =
     ∙ sym (ap (λ (k : ℕ). (es ++ (e ∷ [])) ++ replicate k unused) left ∙ append-snoc es e (replicate rest unused))
 
 module _ (p : Problem) (list : List Bracket) where
-  -- the entries of the first brackets
+  -- The entries of the first i brackets.
   abbrev pub entriesUpTo : ℕ → List Entry
   entriesUpTo i = map (entryFor p) (take i list)
 
@@ -69,7 +69,7 @@ module _ (p : Problem) (list : List Bracket) where
       ∙ ap places (sym (map-snoc (take i list) (getD list i d)))
       ∙ rw add-one (ap (λ (bs : List Bracket). places (map (entryFor p) bs)) (sym (take-suc list i d h)))
 
-  -- as many as the count says are the entries again
+  -- The first `count` elements are the entries again.
   pub taken-again : (count : ℕ) → length list ≡ mostEntries → take count (places (entriesUpTo count)) ≡ entriesUpTo count
   taken-again count all = by (ltb mostEntries count) refl
     where

@@ -1,5 +1,5 @@
--- An answer, entry by entry: what the buffer holds once its head and the first i entries are written (`soFar`), what one more entry
--- makes of it (`goes-on`), and that the last one makes the whole answer (`ends`).
+-- Writing an answer entry by entry: what the buffer holds once its head and the first i entries are written (`soFar`), how one more entry
+-- changes it (`goes-on`), and that it holds the whole answer after the last entry (`ends`).
 use mathlib.Core.Path.{_≡_, refl, sym, ap, _∙_}
 use mathlib.Core.List.{List, [], _∷_, _++_, append-assoc, append-nil}
 use Prim.Native.Nat.{ℕ, _+_, _*_, _-_, _≤_, _<_}
@@ -16,7 +16,7 @@ use Rattle.records.specs.declared.Entry.{Entry}
 use Rattle.records.proofs.Sizes.{head-length, entry-length}
 use Rattle.records.proofs.Answers.{entries-length, entries-append, answer-length}
 
--- ---- bytes laid over a part of a buffer
+-- ---- bytes written to a part of a buffer
 
 laid-part :
     (pre rest bytes : List ℕ) (n k : ℕ) → length pre ≡ n → k ≡ length (pre ++ rest) - n → length bytes ≤ length rest →
@@ -27,13 +27,13 @@ laid-part pre rest bytes n k e f h =
     let none : drop k rest ≡ [] = drop-of-length-le rest {i = k} (omega (arith, size)) in
     rw (take-at pre rest n e, drop-at pre rest n e, whole, none, laid rest bytes h, append-nil)
 
--- ---- the first i of some entries
+-- ---- the first i entries of a list
 
 module _ (es : List Entry) where
   abbrev bytesUpTo : ℕ → List ℕ
   bytesUpTo i = entriesBytes (take i es)
 
-  -- the head's bytes, the first i entries, and the buffer's own bytes after them
+  -- The head's bytes, the first i entries, and the buffer's own bytes after them.
   unfoldable pub soFar : ℕ → List ℕ → List ℕ
   soFar i buffer = take headSize buffer ++ bytesUpTo i ++ drop (answerSize i) buffer
 
@@ -68,7 +68,7 @@ module _ (es : List Entry) where
         ∙ omega (arith, front-size i few (omega (arith, room)), length-drop (answerSize i) buffer, room)
 
     module _ (i : ℕ) (few : i < length es) (room : answerSize (i + 1) ≤ length buffer) where
-      -- the next entry is written to the part of the buffer from its place on
+      -- Writing the next entry to the part of the buffer that begins at its place gives `soFar` with one more entry.
       pub goes-on :
           (d : Entry) (cur : List ℕ) (place : ℕ) → place ≡ answerSize i → cur ≡ soFar i buffer →
           let left = length cur - place in
@@ -97,11 +97,11 @@ module _ (es : List Entry) where
     abbrev head : ℕ → List ℕ
     head i = headBytes (answerHeadOf job revision i)
 
-    -- the size of the answer with the first i entries
+    -- The size of the answer with the first i entries.
     pub taken-size : (i : ℕ) → i ≤ length es → length (answer i) ≡ answerSize i
     taken-size i few = answer-length job revision (take i es) ∙ ap (λ (n : ℕ). answerSize n) (length-take-le i es few)
 
-    -- the head was written over the buffer's start, and then every entry
+    -- If the head was written to the buffer's start, and then every entry after it, the buffer holds the whole answer.
     pub ends :
         (count : ℕ) (buffer first : List ℕ) → count ≤ length es → answerSize count ≤ length buffer →
         first ≡ written buffer (head count) → soFar count first ≡ written buffer (answer count)

@@ -18,31 +18,34 @@ use Rattle.velocity.specs.Chosen.{upperChosen, vectorFinite}
 use Rattle.velocity.specs.Velocities.{velocitiesOf}
 use Rattle.velocity.specs.declared.Velocities.{Velocities}
 
--- the time, or void, at each place of a problem
+-- The time at each place of a problem, or void.
 unfoldable pub placeOf : Problem → ℤ → Place
 placeOf p k = timeOf (p .triangle) k (p .revolutions)
 
--- whether the upper end is chosen, of the places of both ends; the lower where one is void, which no end of a crossing's bracket is
+-- Whether the upper end is chosen, given the places of both ends. If one of them is void, the lower end is chosen. No end of a crossing's
+-- bracket is void.
 abbrev pub upperOf : Place → Place → Float → Bool
 upperOf (Timed lower) (Timed upper) wanted = upperChosen lower upper wanted
 upperOf (Timed lower) Void wanted = false
 upperOf Void upper wanted = false
 
+-- Whether the upper end of a bracket is chosen.
 unfoldable pub takesUpper : Problem → Bracket → Bool
 takesUpper p b = upperOf (placeOf p (b .lower)) (placeOf p (b .upper)) (p .wanted)
 
--- the velocities at a place, and at the chosen end
+-- The velocities at a place of a problem.
 unfoldable pub velocitiesAt : Problem → ℤ → Velocities
 velocitiesAt p k = velocitiesOf (p .mu) (p .triangle) (p .radius1) (p .radius2) (p .frame) k
 
+-- The velocities at the chosen end of a bracket.
 unfoldable pub velocitiesFor : Problem → Bracket → Velocities
 velocitiesFor p b = velocitiesAt p (cond (takesUpper p b) (b .upper) (b .lower))
 
--- the chosen end as the wire says it: 0 lower, 1 upper
+-- The number of the chosen end on the wire: 0 for the lower end, 1 for the upper end.
 abbrev pub endNumber : Bool → ℕ
 endNumber upper = cond upper 1 0
 
--- the entry of a bracket
+-- The entry of a bracket.
 unfoldable pub entryFor : Problem → Bracket → Entry
 entryFor p b =
     record {
@@ -53,7 +56,7 @@ entryFor p b =
       v2 = velocitiesFor p b .v2;
     }
 
--- a place that is not used, and the places of at most eight entries: those, and unused places after them
+-- An unused element of the list of entries.
 abbrev pub unused : Entry
 unused =
     let none : Vector = record { x = 0F; y = 0F; z = 0F } in
@@ -65,17 +68,19 @@ unused =
       v2 = none;
     }
 
+-- The list that holds at most `mostEntries` entries: the entries, and unused elements after them.
 abbrev pub places : List Entry → List Entry
 places es = es ++ replicate (mostEntries - length es) unused
 
--- whether the velocities of an entry are finite, and of the entry of a bracket
+-- Whether the velocities of an entry are finite.
 abbrev pub entryFinite : Entry → Bool
 entryFinite e = vectorFinite (e .v1) && vectorFinite (e .v2)
 
+-- Whether the velocities of a bracket's entry are finite.
 unfoldable pub finiteFor : Problem → Bracket → Bool
 finiteFor p b = entryFinite (entryFor p b)
 
--- whether all of a list pass a test
+-- Whether every element of a list passes a test.
 unfoldable pub every : {A : Type 0} → (A → Bool) → List A → Bool
 every test [] = true
 every test (x ∷ xs) = test x && every test xs

@@ -1,4 +1,4 @@
-// An answer's bytes.
+// The bytes of an answer.
 ghost use mathlib.Core.Path.{_≡_};
 ghost use lib.ListN.{take};
 ghost use Rattle.little_endian.specs.Bytes.{written};
@@ -7,8 +7,8 @@ use crate::cut_count;
 use records::Entry;
 use records::MOST_ENTRIES;
 
-// Writes the head, and after it the first `count` entries, or all of them if there are not so many. Without
-// room for that it changes nothing.
+// Writes the head of an answer and after it the first `count` entries, or all entries if `count` is
+// larger than the list. If the buffer has no room for that, it stays unchanged.
 pub fn write_answer(
     job: u32,
     revision: u32,

@@ -1,5 +1,5 @@
-// The entries of an answer: of each bracket the chosen end and the velocities there (01, Velocities), whether
-// all of these are finite, and the answer's bytes.
+// The entries of an answer: the chosen end of each bracket and the velocities there (01,
+// Velocities), whether all of these velocities are finite, and the answer's bytes.
 ghost use mathlib.Core.Path.{_≡_};
 ghost use mathlib.Core.Bool.{cond};
 ghost use mathlib.Core.List.{map};
@@ -19,7 +19,7 @@ use records::Entry;
 use records::MOST_ENTRIES;
 use velocity::Velocities;
 
-// The time at the place k of a problem, or that it is void.
+// Returns the time at place k of a problem, or void if it has none.
 pub fn place_at(p: Problem, k: i64) -> Place
     ensures { λ r. ⌜ r ≡ placeOf p k ⌝ }
 {
@@ -27,7 +27,8 @@ pub fn place_at(p: Problem, k: i64) -> Place
     flight_time::time_at(triangle, k, p.revolutions)
 }
 
-// Whether the upper end is chosen, of the places of both ends.
+// Reports whether the upper end is chosen, given the places of both ends. If one of them is void,
+// the upper end is not chosen.
 fn upper_of(lower: Place, upper: Place, wanted: f64) -> bool
     ensures { λ r. ⌜ r ≡ upperOf lower upper wanted ⌝ }
 {
@@ -54,7 +55,8 @@ fn velocities_at(p: Problem, k: i64) -> Velocities
     velocity::velocities_at(p.mu, triangle, p.radius1, p.radius2, frame, k)
 }
 
-// The velocities at the upper end of a bracket, or at its lower end.
+// Returns the velocities at the upper end of a bracket if `upper` is true, and at its lower end
+// otherwise.
 fn velocities_at_end(p: Problem, b: Bracket, upper: bool) -> Velocities
     ensures { λ r. ⌜ r ≡ velocitiesAt p (cond upper (b .upper) (b .lower)) ⌝ }
 {
@@ -65,7 +67,7 @@ fn velocities_at_end(p: Problem, b: Bracket, upper: bool) -> Velocities
     }
 }
 
-// An end as the wire says it: 0 the lower, 1 the upper.
+// Returns the number of an end on the wire: 0 for the lower end, 1 for the upper end.
 fn end_number(upper: bool) -> u32
     ensures { λ r. ⌜ r ≡ endNumber upper ⌝ }
 {
@@ -88,7 +90,7 @@ fn entry_for(p: Problem, b: Bracket) -> Entry
     }
 }
 
-// A count, cut at the places of a list.
+// Returns `count`, but at most `MOST_ENTRIES`, the number of elements of a list.
 pub(crate) fn cut_count(count: usize) -> u16
     ensures most { λ r. ⌜ r ≤ mostEntries ⌝ }
     ensures cut { λ r. ⌜ r ≡ min count mostEntries ⌝ }
@@ -100,8 +102,8 @@ pub(crate) fn cut_count(count: usize) -> u16
     }
 }
 
-// The entries of the first `count` brackets, or of all of them if there are not so many. The places after
-// these entries hold zeros.
+// Returns the entries of the first `count` brackets, or of all brackets if `count` is larger than
+// the list. The unused elements after these entries hold zeros.
 pub fn entries_of(p: Problem, list: [Bracket; MOST_ENTRIES], count: usize) -> [Entry; MOST_ENTRIES]
     ensures places { λ r. ⌜ r ≡ places (map (entryFor p) (take count list)) ⌝ }
     ensures taken { λ r. ⌜ take count r ≡ map (entryFor p) (take count list) ⌝ }
@@ -136,7 +138,8 @@ fn is_finite(e: Entry) -> bool
     velocity::are_finite(Velocities { v1, v2 })
 }
 
-// Whether the velocities of the first `count` entries are finite, or of all of them if there are not so many.
+// Reports whether the velocities of the first `count` entries are finite, or of all entries if
+// `count` is larger than the list.
 pub fn all_finite(entries: [Entry; MOST_ENTRIES], count: usize) -> bool
     ensures { λ r. ⌜ r ≡ every entryFinite (take count entries) ⌝ }
 {

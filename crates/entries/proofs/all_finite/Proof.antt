@@ -1,4 +1,5 @@
--- `all_finite` meets its contract: the invariant is that the first i were asked; the measure is how many are left.
+-- `all_finite` meets its contract: the invariant is that `finite` says whether the velocities of the first i entries are finite. The
+-- measure is the number of entries left.
 use mathlib.Core.Path.{_≡_, refl, sym, ap, _∙_}
 use Prim.Native.Nat.{ℕ, _-_, _≤_, _<_, min}
 use native.Mathlib.Omega.{arith}
@@ -26,7 +27,7 @@ loop-holds : tie.Need-loop-holds Inv-loop μ-loop
 unfolding every
 loop-holds c = (omega arith, refl)
 
--- the list has as many places as an answer has entries at most, and in a turn i is one of them
+-- The list has `mostEntries` elements, and in an iteration i is the index of one of them.
 list-length : (c : tie.After-cut-count Inv-loop μ-loop) → length (c .before .args .t1) ≡ mostEntries
 list-length c = search (needs, c .before .good)
 

@@ -1,4 +1,4 @@
--- `cut_count` meets its contract: by its test.
+-- `cut_count` meets its contract: the proof checks both branches of its condition.
 use borrow.Author.Needs.{needs}
 use Rattle.entries.proofs.cut_count.Statement.{statement}
 use Rattle.entries.proofs.cut_count.Tie as tie

@@ -1,4 +1,4 @@
--- `end_number` meets its contract: by its test.
+-- `end_number` meets its contract: the proof checks both branches of its condition.
 use borrow.Author.Needs.{needs}
 use Rattle.entries.proofs.end_number.Statement.{statement}
 use Rattle.entries.proofs.end_number.Tie as tie

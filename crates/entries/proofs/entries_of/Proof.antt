@@ -1,4 +1,5 @@
--- `entries_of` meets its contract: the invariant is that the first i entries are in their places; the measure is how many are left.
+-- `entries_of` meets its contract: the invariant is that the first i elements hold their entries and the others are unused. The measure
+-- is the number of entries left.
 use mathlib.Core.Path.{_≡_, refl, ap, _∙_}
 use mathlib.Core.List.{List, map}
 use Prim.Native.Nat.{ℕ, _-_, _≤_, _<_, min}
@@ -27,7 +28,7 @@ cast-few c = search needs
 loop-holds : tie.Need-loop-holds Inv-loop μ-loop
 loop-holds c = (omega arith, refl)
 
--- the list has as many places as an answer has entries at most, and in a turn i is one of them
+-- The list has `mostEntries` elements, and in an iteration i is the index of one of them.
 list-length : (c : tie.After-cut-count Inv-loop μ-loop) → length (c .before .args .t2) ≡ mostEntries
 list-length c = search (needs, c .before .good)
 

@@ -1,4 +1,4 @@
--- `entry_for` meets its contract: the bracket's own numbers, the end that is chosen and the velocities there.
+-- `entry_for` meets its contract: it returns the bracket's lower end and halvings, the chosen end and the velocities there.
 use borrow.Author.Needs.{needs}
 use mir.Facts.{toZ-ofZ}
 use mir.Syntax.{w64}

@@ -1,4 +1,4 @@
--- `is_finite` meets its contract: it asks of both velocities.
+-- `is_finite` meets its contract: it passes both velocities on to `velocity::are_finite`.
 use Rattle.velocity.specs.Chosen.{velocitiesFinite}
 use borrow.Author.Needs.{needs}
 use Rattle.entries.proofs.is_finite.Statement.{statement}

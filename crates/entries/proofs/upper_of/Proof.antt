@@ -1,4 +1,4 @@
--- `upper_of` meets its contract: by the cases of the two places.
+-- `upper_of` meets its contract: the proof goes through the cases of the two places.
 use borrow.Author.Needs.{needs}
 use Rattle.entries.proofs.upper_of.Statement.{statement}
 use Rattle.entries.proofs.upper_of.Tie as tie

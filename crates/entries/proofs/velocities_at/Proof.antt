@@ -1,4 +1,4 @@
--- `velocities_at` meets its contract: it hands the problem's numbers on.
+-- `velocities_at` meets its contract: it passes the problem's numbers on to `velocity::velocities_at`.
 use borrow.Author.Needs.{needs}
 use mir.Facts.{toZ-ofZ}
 use Rattle.entries.specs.Entries.{velocitiesAt}

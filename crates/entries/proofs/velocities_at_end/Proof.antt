@@ -1,4 +1,4 @@
--- `velocities_at_end` meets its contract: by its test.
+-- `velocities_at_end` meets its contract: the proof checks both branches of its condition.
 use borrow.Author.Needs.{needs}
 use mir.Facts.{toZ-ofZ}
 use mir.Syntax.{w64}

@@ -1,5 +1,5 @@
--- `write_answer` meets its contract: the invariant is `soFar`, the buffer with the head and the first i entries; the measure is how
--- many are left.
+-- `write_answer` meets its contract: the invariant is `soFar`, the buffer with the head and the first i entries written. The measure is
+-- the number of entries left.
 use mathlib.Core.Path.{_≡_, sym, ap, _∙_}
 use Prim.Native.Nat.{ℕ, _+_, _-_, _≤_, _<_}
 use native.Mathlib.Omega.{arith}
@@ -32,7 +32,7 @@ cut-count-requires c κs = tt
 answer-size-requires : tie.Need-answer-size-requires Inv-loop μ-loop
 answer-size-requires c κs = tt
 
--- what the count was cut to takes as many entries, and there are as many
+-- The cut count is at most the length of the list, and it takes the same entries from the list as the count does.
 cut : (c : tie.After-cut-count Inv-loop μ-loop) →
     let a = c .before .before .args in
     (c .cut-count .result ≤ length (a .t3)) × (take (c .cut-count .result) (a .t3) ≡ take (a .count) (a .t3))
@@ -43,7 +43,7 @@ cut c =
       ap (λ (n : ℕ). take n (a .t3)) (c .cut-count .ensures .1) ∙ take-cut-count (a .t3) (a .count) long,
     )
 
--- the buffer with the answer of some entries written
+-- The buffer with an answer of the given entries written to it.
 abbrev with-answer : tie.After-cut-count Inv-loop μ-loop → List Entry → List ℕ
 with-answer c es =
     let a = c .before .before .args in
@@ -67,18 +67,20 @@ answer-head-requires c κs = tt
 write-head-requires : tie.Need-write-head-requires Inv-loop μ-loop
 write-head-requires c κs = tt
 
--- from where the head was written: the test of the room, and what the count was cut to
+-- Leads from the point where the head is written back to the test for room.
 abbrev room-at : tie.After-write-head Inv-loop μ-loop → tie.Else1 Inv-loop μ-loop
 room-at c = c .before .before .before
 
+-- Leads from the point where the head is written back to the cut count.
 abbrev few-at : tie.After-write-head Inv-loop μ-loop → tie.After-cut-count Inv-loop μ-loop
 few-at c = room-at c .before .before
 
+-- The buffer has room for the answer.
 enough : (c : tie.After-write-head Inv-loop μ-loop) →
     answerSize (few-at c .cut-count .result) ≤ length (few-at c .before .before .args .out .now)
 enough c = omega (arith, room-at c .if1 .left, room-at c .before .answer-size .ensures)
 
--- the buffer once the head is written, and its size
+-- What the buffer holds once the head is written.
 first-is : (c : tie.After-write-head Inv-loop μ-loop) →
     let few = few-at c in
     let a = few .before .before .args in
@@ -87,6 +89,7 @@ first-is c =
     let a = few-at c .before .before .args in
     c .write-head .ensures .1 ∙ ap (λ (h : Head). written (a .out .now) (headBytes h)) (c .before .answer-head .ensures)
 
+-- Writing the head does not change the size of the buffer.
 first-size : (c : tie.After-write-head Inv-loop μ-loop)
     → length (c .write-head .last .0) ≡ length (few-at c .before .before .args .out .now)
 first-size c =
@@ -100,10 +103,11 @@ loop-holds c =
     let head = c .before .before in
     (omega arith, starts (few-at head .before .before .args .t3) (head .write-head .last .0))
 
--- at a turn's start: where the head was written; the buffer has kept its size
+-- Leads from the start of an iteration back to the point where the head is written.
 abbrev head-at : tie.At-loop Inv-loop μ-loop → tie.After-write-head Inv-loop μ-loop
 head-at c = c .before .before .before
 
+-- At the start of an iteration the buffer still has the size that it began with.
 still : (c : tie.At-loop Inv-loop μ-loop) → length (c .loop .out) ≡ length (few-at (head-at c) .before .before .args .out .now)
 still c =
     let head = head-at c in
@@ -118,10 +122,11 @@ still c =
 answer-size-requires-2 : tie.Need-answer-size-requires-2 Inv-loop μ-loop
 answer-size-requires-2 c κs = tt
 
--- in a turn: i is one of the entries, and the buffer has room for them
+-- In an iteration, i is the index of an element of the list.
 in-list : (c : tie.In-loop Inv-loop μ-loop) → c .before .loop .i < mostEntries
 in-list c = omega (arith, c .loop-test .taken, few-at (head-at (c .before)) .cut-count .ensures .0)
 
+-- In an iteration, the entry's place is within the buffer.
 sub-write-entry : tie.Need-sub-write-entry Inv-loop μ-loop
 sub-write-entry c =
     let turn = c .before in
@@ -145,7 +150,7 @@ array-copy-out-write-entry c = in-list (c .before .before)
 write-entry-requires : tie.Need-write-entry-requires Inv-loop μ-loop
 write-entry-requires c κs = tt
 
--- in a turn, from where the entry is written to where its place is known
+-- In an iteration, leads from the point where the entry is written back to where its place is computed.
 abbrev place-at : tie.After-write-entry Inv-loop μ-loop → tie.After-answer-size2 Inv-loop μ-loop
 place-at c = c .before .before .before
 
