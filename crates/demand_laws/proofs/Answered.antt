@@ -1,5 +1,6 @@
--- What an answer's bytes and entries are: each entry stands at its place, has the bracket of its pair, and the chosen end and velocities
--- that belong to it; and all velocities are finite exactly when each is.
+-- The bytes and the entries of an answer. Each entry is at its place in the bytes (`entry-place`). It has the bracket of its crossing,
+-- and the chosen end and velocities that belong to it (`bracket-of`, `chosen-by`). All velocities are finite exactly if those of each
+-- crossing are (`each-finite`, `finite-each`).
 use mathlib.Core.Path.{_≡_, refl, sym, ap, _∙_}
 use mathlib.Core.Bool.{Bool, true, false, cond, not, _&&_}
 use mathlib.Core.Logic.{_⊎_, inl, inr, ⊎-elim}
@@ -37,7 +38,7 @@ use Rattle.entries.specs.Entries.{entryFor, entryFinite, every}
 use Rattle.solver.specs.Crossed.{searchOf, sidesOf, gridOf, lastPlace, bracketsOf, entriesOf}
 use Rattle.demand_laws.specs.Demand.{IsCrossing, pairsOf, bracketAt, entryAt, ChosenBy}
 
--- ---- bytes
+-- ---- the bytes of the entries
 
 entry-at : (es : List Entry) (tail : List ℕ) (e : ℕ) (d : Entry) → e < length es →
     take entrySize (drop (entrySize * e) (entriesBytes es ++ tail)) ≡ entryBytes (getD es e d)
@@ -54,7 +55,7 @@ entry-at (x ∷ xs) tail (suc e) d h =
     ∙ drop-at (entryBytes x) (entriesBytes xs ++ tail) entrySize (entry-length x))
     ∙ entry-at xs tail e d (omega arith)
 
--- the entry of index e stands where an answer with e entries ends, whatever follows it
+-- The entry with index e is stored where an answer with e entries ends, whatever follows it.
 pub entry-place : (job revision : ℕ) (es : List Entry) (tail : List ℕ) (e : ℕ) (d : Entry) → e < length es →
     take entrySize (drop (answerSize e) (answerBytes job revision es ++ tail)) ≡ entryBytes (getD es e d)
 unfolding answerBytes
@@ -69,13 +70,13 @@ map-twice : {A B C : Type 0} (f : B → C) (g : A → B) (xs : List A) → map f
 map-twice f g [] = refl
 map-twice f g (x ∷ xs) = ap (λ l. f (g x) ∷ l) (map-twice f g xs)
 
--- ---- every one of a list
+-- ---- both parts of a conjunction
 
 and-both : (a b : Bool) → a && b ≡ true → (a ≡ true) × (b ≡ true)
 and-both true b e = (refl, e)
 and-both false b e = (cc, cc)
 
--- ---- sides of two times
+-- ---- the sides of two times
 
 different : (a b : Bool) → a ≡ not b → opposite (cond a Below NotBelow) (cond b Below NotBelow) ≡ true
 different true false e = refl
@@ -126,7 +127,7 @@ module _ (p : Problem) where
   unfolding bracketsOf brackets
   finite-each f = of-each (pairsOf p) f
 
-  -- the one whose velocities are not finite, where not every one's are
+  -- If not all velocities are finite, there is a listed pair whose velocities are not both finite.
   not-each : (xs : List ℕ) → every (finiteFor p) (map (bracketAt p) xs) ≡ false →
       (i : ℕ) × (Listed i xs × (finiteFor p (bracketAt p i) ≡ false))
   unfolding every Listed
@@ -147,7 +148,7 @@ module _ (p : Problem) where
   unfolding finiteFor
   finite-is i = refl
 
-  -- ---- a pair that counts is one that crosses, a station has a time where its side is known
+  -- ---- crossings by times and by sides, and the times of places whose side is known
 
   side-is : (k : ℤ) → sidesOf p k ≡ sideOf (placeOf p k) (p .wanted)
   unfolding sidesOf sideAt placeOf
@@ -189,7 +190,7 @@ module _ (p : Problem) where
             (moved (side-at (gridOf p .place i) (x .0) (x .1 .0)) (side-at (gridOf p .place (i + 1)) (y .0) (y .1 .0)) e);
       }
 
-  -- ---- the bracket and the chosen end of a pair
+  -- ---- the bracket and the chosen end of a crossing
 
   pub bracket-of : (i : ℕ) → IsCrossing p i →
       IsBracket (sidesOf p) (gridOf p .place i) (gridOf p .place (i + 1)) (gridOf p .halvings i) (bracketAt p i)

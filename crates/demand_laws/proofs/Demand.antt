@@ -1,5 +1,6 @@
--- THE DEMAND, for every list of bytes and every buffer: `demand-1`, and for a question past the entrance checks `demand-3`. By one
--- equation, `solve-is`: a call gives the first row of 01's whole table that applies, or the answer where none does.
+-- The proof of the demand: `demand-1` for every question and every buffer, and `demand-3` for a question past the entrance checks. Both
+-- follow from one equation, `solve-is`: a call gives the number of the first row of 01's whole table that applies, or the answer if none
+-- applies.
 use mathlib.Core.Path.{_≡_, refl, sym, ap, _∙_}
 use mathlib.Core.Bool.{Bool, true, false, cond}
 use mathlib.Core.List.{List, _++_, map}
@@ -61,7 +62,7 @@ module _ (s b : List ℕ) where
   abbrev entrance : List Check
   entrance = checks (length s) (length b) q g
 
-  -- the first row that applies, of the entrance, of the rest, and of the whole table
+  -- The number of the first row of the whole table that applies, or 0 if none does.
   abbrev N : ℕ
   N = firstOf (tableOf s (length b))
 
@@ -93,7 +94,7 @@ module _ (s b : List ℕ) where
   unfolding tableOf
   table-first = first-append 0 entrance (lateChecks p) rising-entrance
 
-  -- ---- the one equation
+  -- ---- the equation for a call
   abbrev given : ℕ → Solved
   given n = cond (eqb n 0) (answered p b) (refused n b)
 
@@ -107,7 +108,7 @@ module _ (s b : List ℕ) where
   unfolding solveOf judgeOf
   solve-is = by-entrance (eqb (firstOf entrance) 0) refl ∙ ap given (sym table-first)
 
-  -- ---- what an outcome says of the first row
+  -- ---- the first row that applies, from the outcome and back
   given-number : (n : ℕ) (t : Bool) → eqb N 0 ≡ t → cond t (answered p b) (refused N b) .outcome ≡ Refused n → (N ≡ n) × (0 < n)
   given-number n true e f = apart (sym f)
   given-number n false e f =
@@ -132,7 +133,7 @@ module _ (s b : List ℕ) where
   when-answered : N ≡ 0 → solveOf s b ≡ answered p b
   when-answered e = solve-is ∙ ap given e
 
-  -- ---- 1
+  -- ---- demand 1
   pub demand-1 : Demand1 s b
   unfolding rowOf
   demand-1 =
@@ -161,7 +162,7 @@ module _ (s b : List ℕ) where
             ap (λ (x : Solved). x .buffer) (when-refused n (r .1) (r .0));
       }
 
-  -- ---- 3
+  -- ---- demand 3
   module _ (past : Past s (length b)) where
     late : N ≡ firstOf (lateChecks p)
     unfolding conditionOf
@@ -176,7 +177,7 @@ module _ (s b : List ℕ) where
     of-row : (n : ℕ) → rows (eqb C 0) (anyVoid p) (ltb 8 C) (allFinite p) ≡ n → N ≡ n
     of-row n e = late ∙ rows-are p ∙ e
 
-    -- the tests in the demand's words
+    -- The tests of the rows 11 to 14, restated in the terms of `Demand3`.
     pair-listed : (i : ℕ) → Exactly (Listed i (pairsOf p)) (IsCrossing p i)
     pair-listed i =
         let l = listed-exactly (sidesOf p) (gridOf p) (lastPlace p) i in
@@ -251,7 +252,7 @@ module _ (s b : List ℕ) where
           chosen = chosen-by p;
         }
 
-    -- an accepted answer
+    -- The bytes and the entries of an accepted answer.
     room : answerRoom ≤ length b
     room = accepted-room s (length b) p (accepted-exactly s (length b) .always past)
 

@@ -1,6 +1,6 @@
--- Yes and no never both come back for one question: with room for an answer, the outcome and the record are a function of the question's
--- bytes alone, whatever the buffer held (`same-outcome`, `never-both`) and however often it is asked; and what the record is to the
--- outcome (`recording`).
+-- One question never gets both an answer and a refusal. With room for an answer, the outcome and the record depend on the question's
+-- bytes alone, whatever the buffer held (`same-outcome`, `never-both`) and however often the question is asked. `recording` says how the
+-- record follows from the outcome.
 use mathlib.Core.Path.{_≡_, refl, sym, ap, _∙_}
 use mathlib.Core.Bool.{Bool, true, false, cond}
 use mathlib.Core.List.{List, _++_}
@@ -37,7 +37,7 @@ module _ (s : List ℕ) where
   by-verdict (Refused n) b c = refl
   by-verdict (Accepted p) b c = by-row p (eqb (firstOf (lateChecks p)) 0) b c
 
-  -- the same outcome, whatever the two buffers held
+  -- Two buffers with room give the same outcome, whatever they held.
   pub same-outcome : (b c : List ℕ) → answerRoom ≤ length b → answerRoom ≤ length c → solveOf s b .outcome ≡ solveOf s c .outcome
   unfolding solveOf
   same-outcome b c h k =
@@ -45,7 +45,7 @@ module _ (s : List ℕ) where
       ∙ by-verdict (judgeOf s answerRoom) b c
       ∙ sym (ap (λ (j : Judged). solvedAfter j c .outcome) (room-same s (length c) k))
 
-  -- never yes to one and no to the other
+  -- With two buffers that have room, no question is answered with one and refused with the other.
   pub never-both : (b c : List ℕ) → answerRoom ≤ length b → answerRoom ≤ length c → (m n : ℕ) → solveOf s b .outcome ≡ Answered m →
       solveOf s c .outcome ≡ Refused n → ⊥
   never-both b c h k m n e f = apart (sym f ∙ sym (same-outcome b c h k) ∙ e)
@@ -53,7 +53,7 @@ module _ (s : List ℕ) where
   -- ---- the record
 
   module _ (b : List ℕ) (h : answerRoom ≤ length b) where
-    -- the record's bytes laid over the buffer's start, twice as once
+    -- Writing the record's bytes to the buffer's start a second time changes nothing (`twice`).
     short : length (recordOf s) ≤ length b
     short = omega (arith, record-short s, h)
 
@@ -73,7 +73,7 @@ module _ (s : List ℕ) where
         ∙ ap (λ (l : List ℕ). recordOf s ++ l) (drop-append-seam (recordOf s) (drop (length (recordOf s)) b))
         ∙ sym over-is
 
-    -- a call over what a call left: the same outcome, and the same bytes
+    -- A second call with the buffer that the first call left gives the same outcome and leaves the same bytes.
     again-by : (o : Outcome) → solveOf s b .outcome ≡ o → solveOf s (solveOf s b .buffer) ≡ solveOf s b
     again-by (Refused n) e = ap (solveOf s) (when-refused s b n h e .0)
     again-by (Answered n) e =

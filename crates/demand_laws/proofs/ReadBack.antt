@@ -1,6 +1,6 @@
--- What an accepted answer holds fits the wire's fields, so that reading it gives back what was written.
--- An entry's lower end lies between two places of the grid, and it was halved at most 20 times (`entry-held`). The head has the job and the
--- revision of a question that is bytes (`head-held`).
+-- The numbers in an accepted answer fit their fields on the wire, so reading the answer gives back what was written. For an entry
+-- (`entry-held`): its lower end is between two places of the grid, and it has at most 20 halvings. For the head (`head-held`): its job
+-- and revision come from a question that consists of bytes.
 use mathlib.Core.Path.{_≡_, refl}
 use mathlib.Core.Bool.{Bool, true, false, cond}
 use mathlib.Core.Logic.{inl, inr}
@@ -27,7 +27,7 @@ use Rattle.solver.specs.Crossed.{searchOf, gridOf}
 use Rattle.demand_laws.specs.Demand.{IsCrossing, bracketAt, entryAt}
 use Rattle.demand_laws.proofs.Answered.{bracket-of}
 
--- ---- a place between two others is at most as large as both together
+-- ---- the size of a place between two others: at most the sum of their sizes
 
 above-zero : ℤ → ℕ
 above-zero (pos n) = n
@@ -92,7 +92,7 @@ head-held s n bytes few =
     let revision = number-lt (REVISION .width) (REVISION .offset) s bytes in
     answer-held (questionOf s .job) (questionOf s .revision) job revision n few
 
--- ---- what stands at a place of a list is listed in it
+-- ---- the elements of a list are listed in it
 
 pub listed-at : (xs : List ℕ) (i : ℕ) → i < length xs → Listed (getD xs i 0) xs
 unfolding Listed

@@ -1,4 +1,5 @@
--- When each row from 11 to 14 is the first that applies, of their four tests; and lists of checks laid one after another.
+-- What the four tests say if a given row from 11 to 14, or none of them, is the first that applies (`is-none` to `only-four`), and the
+-- first check that applies in two lists of checks joined together (`first-append`).
 use mathlib.Core.Path.{_≡_, refl, sym}
 use mathlib.Core.Bool.{Bool, true, false, cond}
 use mathlib.Core.Logic.{_⊎_, inl, inr}
@@ -53,7 +54,7 @@ only-four false v true f k e h = inr (inr (inl (sym e)))
 only-four false v false false k e h = inr (inr (inr (sym e)))
 only-four false v false true k e h = absurd (omega (arith, e, h))
 
--- ---- the first of two lists of checks: the second one's where the first one has none
+-- ---- the first check that applies in two joined lists: it is in the second list if none in the first applies
 pub first-append : (low : ℕ) (xs ys : List Check) → Rising low xs → firstOf (xs ++ ys) ≡ cond (eqb (firstOf xs) 0) (firstOf ys) (firstOf xs)
 unfolding firstOf
 first-append low [] ys none = refl

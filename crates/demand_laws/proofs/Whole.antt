@@ -1,4 +1,4 @@
--- The whole demand, of its points: `demand-1` and `demand-3`, and what the record is to the outcome.
+-- The whole demand (`demanded`), from its parts `demand-1`, `demand-3` and `recording`.
 use Rattle.demand_laws.specs.Demand.{Demanded}
 use Rattle.demand_laws.proofs.Demand.{demand-1, demand-3}
 use Rattle.demand_laws.proofs.NeverBoth.{recording}

@@ -1,4 +1,5 @@
--- What is demanded of `solveOf`, from bytes to bytes, point by point, and at the end the whole (`Demanded`). Definitions only.
+-- What is demanded of `solveOf`, from bytes to bytes: the demands that 01 refers to by number, one by one, and at the end the whole
+-- (`Demanded`). In these definitions s is the question and b is the answer buffer. Definitions only.
 use mathlib.Core.Path.{_≡_}
 use mathlib.Core.Bool.{Bool, true, false, cond, not}
 use mathlib.Core.Logic.{_⊎_}
@@ -31,47 +32,50 @@ use Rattle.solver.specs.Crossed.{sidesOf, gridOf, lastPlace}
 use Rattle.solver.specs.Table.{lateChecks}
 use Rattle.solver.specs.Solve.{solveOf}
 
--- the problem of a question's bytes
+-- The problem that a question's bytes describe.
 abbrev pub problemFrom : List ℕ → Problem
 problemFrom s = let q = questionOf s in problemOf q (shapeOf (q .r1) (q .r2) (longWay q))
 
--- ---- 1. every bad question gets its number, first fault first
+-- ---- demand 1: every bad question gets the number of its first fault
 
--- all fourteen rows of 01's table, and whether the row of a number applies
+-- All fourteen rows of 01's table of refusals, for a question and the size of the answer buffer.
 unfoldable pub tableOf : List ℕ → ℕ → List Check
 tableOf s room =
     let q = questionOf s in checks (length s) room q (shapeOf (q .r1) (q .r2) (longWay q)) ++ lateChecks (problemFrom s)
 
+-- Whether the row of number n applies.
 unfoldable pub rowOf : List ℕ → ℕ → ℕ → Bool
 rowOf s room n = appliesIn (tableOf s room) n
 
--- a question has an answer, with some number of entries
+-- The question gets an answer, with some number of entries.
 abbrev pub HasAnswer : List ℕ → List ℕ → Type 0
 HasAnswer s b = (n : ℕ) × (solveOf s b .outcome ≡ Answered n)
 
+-- When a question is refused, with which number, and when it is answered.
 pub record Demand1 (s b : List ℕ) : Type 0 where
-  -- a number is given exactly when its own row applies and no earlier one does, and an answer exactly when none applies
+  -- A number is given exactly if its own row applies and no earlier one does. An answer is given exactly if no row applies.
   pub refused : (n : ℕ) → 0 < n → Exactly (solveOf s b .outcome ≡ Refused n) (First (rowOf s (length b)) n)
   pub answered : Exactly (HasAnswer s b) ((n : ℕ) → rowOf s (length b) n ≡ false)
-  -- a refusal's number is 1 to 14, and the buffer then holds what it held
+  -- The number of a refusal is from 1 to 14, and a refusal leaves the buffer unchanged.
   pub number : (n : ℕ) → solveOf s b .outcome ≡ Refused n → (0 < n) × (n ≤ 14)
   pub untouched : (n : ℕ) → solveOf s b .outcome ≡ Refused n → solveOf s b .buffer ≡ b
 
--- ---- 2. is carried by the definitions themselves: each contract says that the code gives what its definition gives, bit for bit
+-- ---- demand 2: no definition is needed here, because each contract says that the code gives what its definition gives, bit for bit
 
--- ---- 3. a question past the entrance checks
+-- ---- demand 3: a question past the entrance checks
 
+-- No entrance check applies.
 abbrev pub Past : List ℕ → ℕ → Type 0
 Past s room = (n : ℕ) → conditionOf s room n ≡ false
 
--- the wanted time that every station is compared with is a finite number above 0, so that 11 is a fact about times and not about a NaN;
--- and |L| is below 1, as the time at a place asks
+-- The wanted time, with which the time at every station is compared, is finite and above 0. So refusal 11 is a fact about times and not
+-- about a NaN. |L| is below 1, as the time at a place requires.
 pub record InDomain (p : Problem) : Type 0 where
   pub wantedFinite : finiteOf (p .wanted) ≡ true
   pub wantedAbove : (0F ≺ p .wanted) ≡ true
   pub lambdaBelow : (magnitudeOf (p .triangle .lambda) ≺ 1F) ≡ true
 
--- what counts: a neighbouring pair of places of the grid, i and i + 1, with both times known and just one of them below the wanted time
+-- The places i and i + 1 of the grid are a crossing: both have times, and exactly one of the two times is below the wanted time.
 pub record IsCrossing (p : Problem) (i : ℕ) : Type 0 where
   pub within : i < lastPlace p
   pub lowerTime : Float
@@ -80,35 +84,40 @@ pub record IsCrossing (p : Problem) (i : ℕ) : Type 0 where
   pub upperIs : placeOf p (gridOf p .place (i + 1)) ≡ Timed upperTime
   pub apart : (lowerTime ≺ p .wanted) ≡ not (upperTime ≺ p .wanted)
 
--- the crossings of the sweep, each by the index of its lower place (`listed` says that they are the pairs of `IsCrossing`); the bracket and
--- the entry of one
+-- All crossings, each given by the index of its lower place. `Pairs.listed` says that they are exactly the pairs of `IsCrossing`.
 abbrev pub pairsOf : Problem → List ℕ
 pairsOf p = crossings (sidesOf p) (gridOf p) (lastPlace p)
 
+-- The bracket of the pair of places i and i + 1.
 abbrev pub bracketAt : Problem → ℕ → Bracket
 bracketAt p i = bracketOf (sidesOf p) (gridOf p) i
 
+-- The entry of the pair of places i and i + 1.
 abbrev pub entryAt : Problem → ℕ → Entry
 entryAt p i = entryFor p (bracketAt p i)
 
--- every velocity of every such pair is finite, some is not; every place has a time, some has none; no pair counts
+-- The velocities in the entry of every crossing are finite.
 abbrev pub FiniteAll : Problem → Type 0
 FiniteAll p = (i : ℕ) → IsCrossing p i → entryFinite (entryAt p i) ≡ true
 
+-- The entry of some crossing has a velocity that is not finite.
 abbrev pub FiniteNot : Problem → Type 0
 FiniteNot p = (i : ℕ) × (IsCrossing p i × (entryFinite (entryAt p i) ≡ false))
 
+-- Every place of the grid has a time.
 abbrev pub TimedAll : Problem → Type 0
 TimedAll p = (i : ℕ) → i ≤ lastPlace p → (t : Float) × (placeOf p (gridOf p .place i) ≡ Timed t)
 
+-- Some place of the grid is void.
 abbrev pub VoidSome : Problem → Type 0
 VoidSome p = (i : ℕ) × ((i ≤ lastPlace p) × (placeOf p (gridOf p .place i) ≡ Void))
 
+-- There is no crossing.
 abbrev pub NonePair : Problem → Type 0
 NonePair p = (i : ℕ) → IsCrossing p i → ⊥
 
--- the entry of a bracket has the chosen end and the velocities that 01 gives for it: both ends have times, and the end with the smaller
--- |T − T*| is taken, the lower on a tie
+-- The entry e has the chosen end and the velocities that 01 gives for the bracket r. Both ends of r have times, and the chosen end is the
+-- one with the smaller |T − T*|, or the lower end on a tie.
 pub record ChosenBy (p : Problem) (r : Bracket) (e : Entry) : Type 0 where
   pub lowerTime : Float
   pub upperTime : Float
@@ -118,23 +127,24 @@ pub record ChosenBy (p : Problem) (r : Bracket) (e : Entry) : Type 0 where
   pub v1Is : e .v1 ≡ velocitiesAt p (cond (upperChosen lowerTime upperTime (p .wanted)) (r .upper) (r .lower)) .v1
   pub v2Is : e .v2 ≡ velocitiesAt p (cond (upperChosen lowerTime upperTime (p .wanted)) (r .upper) (r .lower)) .v2
 
--- what the list of pairs, the bracket and the entry of each are, of any problem
+-- What the list of crossings is, and the bracket and the entry of each crossing, for any problem.
 pub record Pairs (p : Problem) : Type 0 where
-  -- the list has exactly these pairs, in rising x
+  -- The list holds exactly the crossings, in rising x.
   pub listed : (i : ℕ) → Exactly (Listed i (pairsOf p)) (IsCrossing p i)
   pub rising : Rising (pairsOf p)
   pub neighbours : (i : ℕ) → gridOf p .place (i + 1) ≡ gridOf p .place i +ℤ pos (2 ^ (20 - gridOf p .halvings i))
-  -- a pair's bracket is the one that halving of the pair ends with, within the pair, its ends on opposite sides, one step wide or with a
-  -- void middle
+  -- The bracket of a crossing is the interval where the bisection of the pair ends. It is within the pair, its ends are on opposite
+  -- sides, and it is one step wide or has a void middle.
   pub bracket : (i : ℕ) → IsCrossing p i →
       IsBracket (sidesOf p) (gridOf p .place i) (gridOf p .place (i + 1)) (gridOf p .halvings i) (bracketAt p i)
+  -- The entry of a pair has the lower end and the halvings of its bracket.
   pub lowerEnd : (i : ℕ) → entryAt p i .lower ≡ bracketAt p i .lower
   pub halvings : (i : ℕ) → entryAt p i .halvings ≡ bracketAt p i .halvings
-  -- its entry's chosen end and velocities are those that 01 gives for that bracket
+  -- The entry of a crossing has the chosen end and the velocities that 01 gives for its bracket.
   pub chosen : (i : ℕ) → IsCrossing p i → ChosenBy p (bracketAt p i) (entryAt p i)
 
--- the bytes of an accepted answer: the record at the buffer's start, as many entries as pairs, the first for the lowest pair and so on,
--- and the buffer's own bytes after it
+-- The bytes of an accepted answer with n entries: the record at the buffer's start, with one entry for each crossing, the lowest first,
+-- and after it the buffer's own bytes.
 pub record Answer (s b : List ℕ) (n : ℕ) : Type 0 where
   pub many : n ≡ length (pairsOf (problemFrom s))
   pub bytes : solveOf s b .buffer
@@ -143,44 +153,50 @@ pub record Answer (s b : List ℕ) (n : ℕ) : Type 0 where
   pub entry : (e : ℕ) → e < n →
       take entrySize (drop (answerSize e) (solveOf s b .buffer))
       ≡ entryBytes (entryAt (problemFrom s) (getD (pairsOf (problemFrom s)) e 0))
-  -- a reader of the bytes finds each pair's entry
+  -- Reading the bytes gives the entry of each crossing.
   pub entryRead : (e : ℕ) → e < n →
       entryOf (drop (answerSize e) (solveOf s b .buffer)) ≡ entryAt (problemFrom s) (getD (pairsOf (problemFrom s)) e 0)
-  -- and a head with the question's job and revision and n entries. That needs s to be bytes, as all that a slice holds are: numbers above
-  -- 255 could make up a job or a revision that four bytes can't hold
+  -- Reading the head gives the question's job and revision, and n entries. This requires that s consists of bytes, which is true of every
+  -- slice: numbers above 255 could form a job or a revision that does not fit in four bytes.
   pub headRead : AreBytes s → headOf (solveOf s b .buffer) ≡ answerHeadOf (questionOf s .job) (questionOf s .revision) n
 
+-- What happens to a question past the entrance checks.
 pub record Demand3 (s b : List ℕ) : Type 0 where
   pub domain : InDomain (problemFrom s)
   pub pairs : Pairs (problemFrom s)
-  -- accepted exactly when there are one to eight such pairs and every velocity is finite
+  -- The question is answered exactly if there are one to eight crossings and every velocity is finite.
   pub accepted : Exactly (HasAnswer s b)
       ((1 ≤ length (pairsOf (problemFrom s))) × (length (pairsOf (problemFrom s)) ≤ 8) × FiniteAll (problemFrom s))
   pub answer : (n : ℕ) → solveOf s b .outcome ≡ Answered n → Answer s b n
-  -- "no transfer" exactly when every place of the grid has a time and no such pair exists
+  -- Number 11, "no transfer", is given exactly if every place of the grid has a time and there is no crossing.
   pub eleven : Exactly (solveOf s b .outcome ≡ Refused 11) (TimedAll (problemFrom s) × NonePair (problemFrom s))
-  -- any other refusal is 12, 13 or 14, each exactly when 01's table says
+  -- Any other refusal is 12, 13 or 14, each exactly if 01's table says so.
   pub twelve : Exactly (solveOf s b .outcome ≡ Refused 12) (VoidSome (problemFrom s) × NonePair (problemFrom s))
   pub thirteen : Exactly (solveOf s b .outcome ≡ Refused 13) (8 < length (pairsOf (problemFrom s)))
   pub fourteen : Exactly (solveOf s b .outcome ≡ Refused 14)
       ((1 ≤ length (pairsOf (problemFrom s))) × (length (pairsOf (problemFrom s)) ≤ 8) × FiniteNot (problemFrom s))
   pub noOther : (n : ℕ) → solveOf s b .outcome ≡ Refused n → (n ≡ 11) ⊎ ((n ≡ 12) ⊎ ((n ≡ 13) ⊎ (n ≡ 14)))
 
--- ---- the record that a question gets, given room, and its outcome
+-- ---- the record of a question
+
+-- How the record of a question, and what the buffer then holds, follow from the outcome of `solveOf`. `Demanded` states this for a buffer
+-- with room for the longest answer.
 pub record Recording (s b : List ℕ) : Type 0 where
   pub answered : (n : ℕ) → solveOf s b .outcome ≡ Answered n →
       (outputOf s b .size ≡ answerSize n) × (outputOf s b .buffer ≡ solveOf s b .buffer)
   pub refused : (n : ℕ) → solveOf s b .outcome ≡ Refused n →
       (outputOf s b .size ≡ refusalSize n) × (outputOf s b .buffer ≡ refusalRecord s n ++ drop (refusalSize n) b)
-  -- it stands at the buffer's start, fits it, and depends on the question's bytes alone
+  -- The record is at the buffer's start, fits in the room for the longest answer, and depends on the question's bytes alone.
   pub size : outputOf s b .size ≡ length (recordOf s)
   pub fits : length (recordOf s) ≤ answerRoom
   pub starts : take (length (recordOf s)) (outputOf s b .buffer) ≡ recordOf s
-  -- asked again over what the first call left, nothing changes
+  -- A second call with the buffer that the first call left gives the same outcome and leaves the same bytes.
   pub again : solveOf s (solveOf s b .buffer) ≡ solveOf s b
 
--- ---- the whole demand: of every list of bytes and every buffer; of a question past the entrance checks; of its record, given room for
--- the longest
+-- ---- the whole demand
+
+-- The whole demand: demand 1 for every question and every buffer, demand 3 for a question past the entrance checks, and the record of a
+-- question for a buffer with room for the longest answer.
 pub record Demanded : Type 0 where
   pub first : (s b : List ℕ) → Demand1 s b
   pub third : (s b : List ℕ) → Past s (length b) → Demand3 s b

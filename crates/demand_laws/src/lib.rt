@@ -1,2 +1,2 @@
-// What is demanded of `solve` and `write_record`, from a question's bytes to the buffer's, and the theorem
-// that it holds. Definitions and theorems; there is no code here.
+// The requirements on `solve` and `write_record`, from the bytes of a question to the bytes of the
+// buffer, and the theorem that they hold. This crate has definitions and theorems, and no code.
