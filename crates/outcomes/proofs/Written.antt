@@ -1,6 +1,6 @@
--- What is written is an outcome in force: a refusal with a number of 01's table (`refusal-outcome`), and an answer of one to eight entries
--- that each name an end (`answer-outcome`), of whatever job and revision. Each field that the tests read is read back, the chosen ends by
--- induction on the entries.
+-- A refusal whose number is in 01's table is a well-formed outcome (`refusal-outcome`). So is an answer with one to
+-- eight entries whose chosen ends are 0 or 1 (`answer-outcome`). Both hold for any job and revision. The proofs read
+-- back each field that `isOutcome` tests. For the chosen ends this is an induction on the entries.
 use mathlib.Core.Path.{_≡_, refl}
 use mathlib.Core.Bool.{true}
 use mathlib.Core.List.{List, [], _∷_, _++_, append-assoc, List·Memᴰ, List·Memᴰ·head as here, List·Memᴰ·tail as there}
@@ -41,7 +41,7 @@ refusal-outcome job revision number low high =
 
 -- ---- the entries of an answer
 
--- each entry names an end: 0 the lower, 1 the upper
+-- The chosen end of every entry is 0 (the lower end) or 1 (the upper end).
 abbrev pub NameEnds : List Entry → Type 0
 NameEnds es = (e : Entry) → List·Memᴰ e es → e .chosen ≤ 1
 

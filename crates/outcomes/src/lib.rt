@@ -1,4 +1,4 @@
-// Outcomes as they come in: which bytes are an answer or a refusal in force, and which are malformed (02, A1).
+// Recognizes outcomes: decides whether bytes are a well-formed answer or refusal, or malformed (02, A1).
 ghost use mathlib.Core.Path.{_≡_};
 ghost use Rattle.outcomes.specs.Outcomes.{isSized, isRefusal, allNameAnEnd, isAnswer, isOutcome};
 use records::ANSWER_KIND;
@@ -13,7 +13,7 @@ use records::number_of;
 use records::refusal_size;
 use records::size_of;
 
-// Whether bytes are an answer or a refusal, and not malformed.
+// Reports whether the bytes are a well-formed outcome: an answer or a refusal that is not malformed.
 pub fn is_outcome(s: &[u8]) -> bool
     ensures { λ r. ⌜ r ≡ isOutcome (now (s .entry)) ⌝ }
 {
@@ -38,14 +38,14 @@ fn is_answer(s: &[u8]) -> bool
     (kind_of(s) == ANSWER_KIND) & is_sized(s, answer_size(n)) & name_ends(s, n)
 }
 
-// Whether there are n bytes, and the length that they begin with says so.
+// Reports whether there are exactly n bytes and the length field at their start gives the same size.
 pub fn is_sized(s: &[u8], n: usize) -> bool
     ensures { λ r. ⌜ r ≡ isSized (now (s .entry)) n ⌝ }
 {
     (s.len() == n) & (size_of(s) == n)
 }
 
-// Whether each of the first n entries names an end of its bracket as the chosen one.
+// Reports whether the chosen end of each of the first n entries is 0 (the lower end) or 1 (the upper end).
 fn name_ends(s: &[u8], n: u16) -> bool
     ensures { λ r. ⌜ r ≡ allNameAnEnd n (now (s .entry)) ⌝ }
 {

@@ -1,4 +1,5 @@
--- `is_answer` meets its contract: the branch is the definition's range of n, and the other tests are its own.
+-- `is_answer` meets its contract. It returns early exactly if n is outside the range that `isAnswer` allows. The other
+-- tests are those of `isAnswer`.
 use Prim.Native.Nat.{ℕ, _≤_}
 use mathlib.Core.Path.{_≡_}
 use mathlib.Core.Bool.{true, false, and-true, and-false}
@@ -17,7 +18,7 @@ number-of-requires c κs = search needs
 cast-if2 : tie.Need-cast-if2
 cast-if2 c = search needs
 
--- both ways to the branch are outside the range
+-- Both conditions of the early return put n outside the range.
 outside : (c : tie.Joined1) → isBetween 1 mostEntries (c .before .number-of .result) ≡ false
 outside c =
     let n = c .before .number-of .result in
@@ -42,7 +43,7 @@ is-sized-requires c κs = search needs
 name-ends-requires : tie.Need-name-ends-requires
 name-ends-requires c κs = search needs
 
--- past the branch n is in the range
+-- If the code does not return early, n is at least 1 and at most `mostEntries`, so it is in the range.
 inside : (n : ℕ) → 1 ≤ n → n ≤ mostEntries → isBetween 1 mostEntries n ≡ true
 inside n l h = rw (le-leb 1 n l, le-leb n mostEntries h)
 

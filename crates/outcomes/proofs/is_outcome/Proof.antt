@@ -1,4 +1,4 @@
--- `is_outcome` meets its contract, by what its calls ensure.
+-- `is_outcome` meets its contract. This follows from the contracts of the functions that it calls.
 use Rattle.outcomes.specs.Outcomes.{isOutcome}
 use borrow.Author.Needs.{needs}
 use Rattle.outcomes.proofs.is_outcome.Statement.{statement}

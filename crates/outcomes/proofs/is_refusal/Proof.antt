@@ -1,4 +1,4 @@
--- `is_refusal` meets its contract: the code's tests are the definition's, of the fields that the calls read.
+-- `is_refusal` meets its contract. Its tests are those of `isRefusal`, applied to the fields that its calls read.
 use Rattle.outcomes.specs.Outcomes.{isRefusal}
 use borrow.Author.Needs.{needs}
 use Rattle.outcomes.proofs.is_refusal.Statement.{statement}

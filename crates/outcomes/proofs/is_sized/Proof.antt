@@ -1,4 +1,4 @@
--- `is_sized` meets its contract: the code's tests are the definition's, of the size that the call reads.
+-- `is_sized` meets its contract. Its tests are those of `isSized`, applied to the size that `size_of` reads.
 use Rattle.outcomes.specs.Outcomes.{isSized}
 use borrow.Author.Needs.{needs}
 use Rattle.outcomes.proofs.is_sized.Statement.{statement}

@@ -1,5 +1,5 @@
--- `name_ends` meets its contract. The loop's invariant: all says whether the first i entries name an end.
--- The measure is how many entries are left.
+-- `name_ends` meets its contract. The loop invariant: `all` is true exactly if the chosen ends of the first i entries
+-- are all 0 or 1. The measure is the number of entries left.
 use Prim.Native.Nat.{_≤_, _-_}
 use mathlib.Core.Path.{_≡_, refl}
 use native.Mathlib.Numerals.{add-one}
