@@ -1,5 +1,5 @@
--- What one byte more adds to a comparison with zeros (`zero-next`) and with other bytes (`same-next`). Bytes of
--- different length are not the same (`other-length`).
+-- The loop steps of `is_zero` and `same_bytes`: what one more byte adds to a comparison with zeros (`zero-next`) and to
+-- a comparison with other bytes (`same-next`). Bytes of different lengths are not the same (`other-length`).
 use Prim.Native.Nat.{ℕ, suc, _+_, _<_}
 use mathlib.Core.Path.{_≡_, refl, ap}
 use mathlib.Core.Bool.{Bool, false, _&&_, and-assoc, and-false}

@@ -1,4 +1,5 @@
--- A conflict's bytes: that they are a conflict, and that a slot may hold them though they are no outcome.
+-- The bytes of a conflict, for any job and revision: they are a conflict (`conflict-is`), a slot may hold them
+-- (`conflict-held`), and they are not an outcome (`conflict-no-outcome`).
 use mathlib.Core.Path.{_≡_, refl}
 use mathlib.Core.Bool.{true, false}
 use Prim.Native.Nat.{ℕ}

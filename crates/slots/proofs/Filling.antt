@@ -1,4 +1,4 @@
--- One byte more of a slot that is being filled (`fill-next`).
+-- The loop step of `fill`: storing the next byte preserves the loop invariant (`fill-next`).
 use Prim.Native.Nat.{ℕ, _+_, _<_}
 use mathlib.Core.Path.{_≡_, sym, _∙_}
 use mathlib.Core.List.{List}
@@ -9,7 +9,6 @@ use lib.Seq.{take-suc, take-suc-set}
 use Rattle.slots.specs.Slots.{padded}
 use Rattle.slots.proofs.Padding.{padded-length, padded-at}
 
--- a store of the next byte carries the loop's invariant on
 pub fill-next : (n : ℕ) (bytes slot : List ℕ) (i : ℕ) → i < n → length slot ≡ n → take i slot ≡ take i (padded n bytes)
     → take (i + 1) (set slot i (getD bytes i 0)) ≡ take (i + 1) (padded n bytes)
 fill-next n bytes slot i h l e =

@@ -1,5 +1,6 @@
--- What a slot may hold, and its slot: the one is read from the other, both ways (`content-back`, `slot-back`). Of the two kinds that it may
--- hold, an outcome is no conflict (`outcome-no-conflict`).
+-- The bytes that a slot may hold and the slot that holds them determine each other. If bytes that a slot may hold are
+-- put into a slot, its content is those bytes (`content-back`), and a filled slot is the slot made from its content
+-- (`slot-back`). An outcome is not a conflict (`outcome-no-conflict`).
 use mathlib.Core.Path.{_≡_, refl, sym, ap, _∙_}
 use mathlib.Core.Bool.{Bool, true, false, _&&_, _||_}
 use mathlib.Core.List.{List, _++_}
@@ -26,7 +27,7 @@ either : {P : Type 0} (a b : Bool) → (a ≡ true → P) → (b ≡ true → P)
 either true b f g e = f refl
 either false b f g e = g e
 
--- ---- what the tests of an outcome tell
+-- ---- consequences of the tests of an outcome
 
 record RefusalTold (c : List ℕ) : Type 0 where
   kind : kindOf c ≡ refusalKind
@@ -60,7 +61,7 @@ answer-told c e =
     let most = both (leb 1 n) (leb n mostEntries) (tests .1) in
     record { kind = eqb-true (kindOf c) answerKind (tests .0); few = leb-true n mostEntries (most .1); size = long .1 }
 
--- an outcome is no conflict: its kind is another
+-- An outcome is not a conflict, because its kind is different.
 pub outcome-no-conflict : (c : List ℕ) → isOutcome c ≡ true → isConflict c ≡ false
 unfolding isOutcome isConflict
 outcome-no-conflict c e =
@@ -73,7 +74,8 @@ outcome-no-conflict c e =
 
 -- ---- sizes
 
--- the length that the bytes have is the one that they say, a slot has room for it, and it is at least a conflict's
+-- The bytes have the size that their length field gives. They are at least as long as a conflict, and they fit in a
+-- slot.
 record Sizes (c : List ℕ) : Type 0 where
   says : length c ≡ sizeOf c
   low : conflictSize ≤ length c
@@ -106,9 +108,9 @@ held-sizes c e =
     either (isOutcome c) (isConflict c)
     (either (isRefusal c) (isAnswer c) (refusal-sizes c) (answer-sizes c)) (conflict-sizes c) e
 
--- ---- from what is held to its slot, and back
+-- ---- from held bytes to their slot, and back
 
--- a field of any bytes
+-- A field that is within the slot has the same value in the slot as in the bytes that the slot is made from.
 slot-field : (f : Field) (c : List ℕ) → f .offset + f .width ≤ answerRoom → valueOf f (slotOf c) ≡ valueOf f c
 slot-field f c h = number-padded (f .width) answerRoom (f .offset) c h
 
@@ -128,7 +130,7 @@ module _ (c : List ℕ) (held : isHeld c ≡ true) where
   pub held-fits : length c ≤ answerRoom
   held-fits = held-sizes c held .high
 
-  -- the bytes, then zeros; and the slot says their length too
+  -- The slot is the bytes followed by zeros (`slot-is`), and its length field gives their size (`slot-size`).
   slot-is : slotOf c ≡ c ++ replicate (answerRoom - length c) 0
   slot-is = padded-is answerRoom c held-fits
 
@@ -155,7 +157,7 @@ module _ (c : List ℕ) (held : isHeld c ≡ true) where
       by true e = absurd (slot-named (zero-number (slotOf c) e (LENGTH .width) (LENGTH .offset)))
       by false e = refl
 
--- ---- from a filled slot to what it holds, and back
+-- ---- from a filled slot to its content, and back
 
 module _ (s : List ℕ) (filled : isFilled s ≡ true) where
   parts : (isHeld (contentOf s) ≡ true) × (isZero (drop (sizeOf s) s) ≡ true)

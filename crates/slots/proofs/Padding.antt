@@ -1,4 +1,5 @@
--- Bytes with zeros after them, up to a size: how many they are and what stands in them, and a number in them.
+-- Bytes padded with zeros up to a size (`padded`): how many they are (`padded-length`), the byte at each index
+-- (`padded-at`), the zeros at the end if the bytes fit (`padded-is`), and the numbers stored in them (`number-padded`).
 use mathlib.Core.Path.{_≡_, refl, ap, _∙_}
 use mathlib.Core.List.{List, [], _∷_, _++_}
 use Prim.Native.Nat.{ℕ, zero, suc, _+_, _-_, _≤_, _<_}
@@ -13,7 +14,7 @@ pub padded-length : (n : ℕ) (c : List ℕ) → length (padded n c) ≡ n
 unfolding padded
 padded-length n c = length-take-le n (c ++ replicate n 0) (simp (length-append, length-replicate) (omega arith))
 
--- past the end a byte counts as 0, so zeros after the bytes change none
+-- A read past the end of a list gives 0, so zeros after the bytes change no byte that is read.
 zeros-after : (c : List ℕ) (n i : ℕ) → getD (c ++ replicate n 0) i 0 ≡ getD c i 0
 zeros-after [] zero i = refl
 zeros-after [] (suc n) zero = refl
@@ -37,7 +38,7 @@ padded-is n c h =
     ap (λ (k : ℕ). take k (c ++ replicate n 0)) e ∙ take-append-add c (replicate n 0) (n - length c)
     ∙ ap (λ (l : List ℕ). c ++ l) (take-zeros (n - length c) n (omega arith))
 
--- ---- numbers
+-- ---- numbers in padded bytes
 
 pub number-padded : (w n at : ℕ) (c : List ℕ) → at + w ≤ n → numberAt w (padded n c) at ≡ numberAt w c at
 number-padded w n at c h = number-same w at (padded n c) c (λ (i : ℕ) l k. padded-at n c i (omega arith))

@@ -1,5 +1,5 @@
--- What the tests on bytes tell: all zeros (`zero-is`) and the same bytes (`same-is`), and that the tests hold of such
--- bytes. `both` parts a test of two.
+-- What the tests on bytes mean: `isZero` is true exactly for lists of zeros (`zero-is`, `zeros-zero`), and `sameBytes`
+-- is true exactly for equal lists (`same-is`, `same-self`). `both` splits a conjunction of two tests.
 use mathlib.Core.Path.{_≡_, refl, sym, ap, _∙_}
 use mathlib.Core.Bool.{Bool, true, false, _&&_, and-assoc, true≢false}
 use mathlib.Core.List.{List, [], _∷_, _++_}
@@ -44,7 +44,7 @@ unfolding numberAt
 zero-number s e zero at = refl
 zero-number s e (suc w) at = rw (zero-at s e at, zero-number s e w (at + 1))
 
--- ---- the same bytes
+-- ---- equal bytes
 
 pub same-is : (a b : List ℕ) → sameBytes a b ≡ true → a ≡ b
 unfolding sameBytes

@@ -1,4 +1,4 @@
--- The slots of a board: what one holds, and its bytes (02, A1). Definitions only.
+-- The slots of a board: what a slot may hold, and its bytes (02, A1). Definitions only.
 use Prim.Native.Nat.{ℕ}
 use mathlib.Core.Bool.{Bool, true, false, _&&_, _||_}
 use mathlib.Core.List.{List, [], _∷_, _++_}
@@ -7,36 +7,36 @@ use lib.ListN.{take, drop, replicate}
 use Rattle.records.specs.Layout.{answerRoom, conflictKind, conflictSize, kindOf, sizeOf}
 use Rattle.outcomes.specs.Outcomes.{isSized, isOutcome}
 
--- some bytes and then zeros, up to a size; cut there where the bytes are more
+-- The bytes followed by zeros, up to the given size. Bytes beyond that size are cut off.
 unfoldable pub padded : ℕ → List ℕ → List ℕ
 padded size bytes = take size (bytes ++ replicate size 0)
 
--- the slot that holds some bytes: room for the longest answer
+-- The slot that holds the given bytes. A slot has room for the longest answer.
 abbrev pub slotOf : List ℕ → List ℕ
 slotOf bytes = padded answerRoom bytes
 
--- the bytes that stand in a slot, by the length that they begin with
+-- The content of a slot: the bytes at its start, up to the size that its length field gives.
 unfoldable pub contentOf : List ℕ → List ℕ
 contentOf s = take (sizeOf s) s
 
--- a conflict, of whatever job and revision
+-- Whether the bytes are a conflict. The job and the revision may be anything.
 unfoldable pub isConflict : List ℕ → Bool
 isConflict s = eqb (kindOf s) conflictKind && isSized s conflictSize
 
--- what a slot may hold: an outcome that is not malformed, or a conflict
+-- Whether a slot may hold these bytes: they are a well-formed outcome or a conflict.
 unfoldable pub isHeld : List ℕ → Bool
 isHeld s = isOutcome s || isConflict s
 
--- whether all bytes are zeros
+-- Whether all bytes are 0.
 unfoldable pub isZero : List ℕ → Bool
 isZero [] = true
 isZero (b ∷ bs) = eqb b 0 && isZero bs
 
--- a filled slot: what it may hold, and then zeros
+-- Whether a slot is filled: its content is what a slot may hold, and all bytes after the content are 0.
 unfoldable pub isFilled : List ℕ → Bool
 isFilled s = isHeld (contentOf s) && isZero (drop (sizeOf s) s)
 
--- whether bytes are the same
+-- Whether two lists of bytes are equal.
 unfoldable pub sameBytes : List ℕ → List ℕ → Bool
 sameBytes [] [] = true
 sameBytes [] (y ∷ ys) = false

@@ -1,16 +1,16 @@
-// Bytes compared with zeros and with each other.
+// Compares bytes with zeros and with each other.
 ghost use mathlib.Core.Path.{_≡_};
 ghost use lib.ListN.{getD};
 ghost use Rattle.slots.specs.Slots.{isZero, sameBytes};
 
-// The byte at a place, 0 past the end.
+// Returns the byte at index i, or 0 past the end.
 pub(crate) fn byte_at(s: &[u8], i: usize) -> u8
     ensures { λ r. ⌜ r ≡ getD (now (s .entry)) i 0 ⌝ }
 {
     if i < s.len() { s[i] } else { 0 }
 }
 
-// Whether all bytes are zeros.
+// Reports whether all bytes are 0.
 pub fn is_zero(s: &[u8]) -> bool
     ensures { λ r. ⌜ r ≡ isZero (now (s .entry)) ⌝ }
 {
@@ -23,7 +23,7 @@ pub fn is_zero(s: &[u8]) -> bool
     zero
 }
 
-// Whether there are as many bytes here as there, and the same.
+// Reports whether a and b have the same length and the same bytes.
 pub fn same_bytes(a: &[u8], b: &[u8]) -> bool
     ensures { λ r. ⌜ r ≡ sameBytes (now (a .entry)) (now (b .entry)) ⌝ }
 {

@@ -1,4 +1,4 @@
-// One slot of a board: what it holds, and filling it (02, A1).
+// One slot of a board: tests what it holds, and fills it (02, A1).
 ghost use mathlib.Core.Path.{_≡_};
 ghost use Prim.Native.Nat.{min};
 ghost use lib.ListN.{length};
@@ -17,7 +17,7 @@ use records::kind_of;
 use records::size_of;
 use records::write_conflict;
 
-// Whether a slot holds an outcome or a conflict, and then zeros.
+// Reports whether a slot holds a well-formed outcome or a conflict, with only zeros after it.
 pub fn is_filled(slot: &[u8]) -> bool
     ensures { λ r. ⌜ r ≡ isFilled (now (slot .entry)) ⌝ }
 {
@@ -25,7 +25,7 @@ pub fn is_filled(slot: &[u8]) -> bool
     is_held(&slot[..size]) && is_zero(&slot[size..])
 }
 
-// How many bytes stand in a slot by the length that they begin with; no more than it has.
+// Returns the size of a slot's content, as its length field gives it, but at most the size of the slot.
 pub fn content_size(slot: &[u8]) -> usize
     ensures { λ r. ⌜ r ≡ min (sizeOf (now (slot .entry))) (length (now (slot .entry))) ⌝ }
 {
@@ -45,7 +45,7 @@ fn is_conflict(s: &[u8]) -> bool
     (kind_of(s) == CONFLICT_KIND) & outcomes::is_sized(s, CONFLICT_SIZE)
 }
 
-// Fills a slot with some bytes and then zeros.
+// Fills a slot with the given bytes and with zeros after them. Bytes beyond the end of the slot are left out.
 pub fn fill(slot: &mut [u8], bytes: &[u8])
     ensures { λ _. ⌜ now (slot .exit) ≡ padded (length (now (slot .entry))) (now (bytes .entry)) ⌝ }
 {
@@ -56,7 +56,7 @@ pub fn fill(slot: &mut [u8], bytes: &[u8])
     }
 }
 
-// Fills a slot with a conflict of a job at a revision.
+// Fills a slot, as `fill` does, with the conflict of the given job at the given revision.
 pub fn fill_conflict(slot: &mut [u8], job: u32, revision: u32)
     ensures { λ _. ⌜ now (slot .exit) ≡ padded (length (now (slot .entry))) (conflictBytes job revision) ⌝ }
 {

@@ -1,5 +1,5 @@
--- `fill` meets its contract. The loop's invariant: the slot keeps its length, and its first i bytes are those of the padded bytes.
--- The measure is how many bytes are left.
+-- `fill` meets its contract. The loop invariant: the slot keeps its length, and its first i bytes are the first i of
+-- the padded bytes. The measure is the number of bytes left.
 use Prim.Native.Nat.{_≤_, _-_}
 use mathlib.Core.Path.{_≡_, refl, sym, _∙_}
 use native.Mathlib.Omega.{arith}

@@ -1,4 +1,5 @@
--- `fill_conflict` meets its contract: the conflict's bytes take the whole array, so that nothing of it is left under them.
+-- `fill_conflict` meets its contract. The bytes of a conflict are as many as the temporary array has, so they replace
+-- all of its zeros.
 use mathlib.Core.Path.{_≡_, sym, ap, _∙_}
 use mathlib.Core.List.{List, append-nil}
 use Prim.Native.Nat.{ℕ, _≤_}
@@ -14,7 +15,7 @@ use Rattle.slots.specs.Slots.{padded}
 use Rattle.slots.proofs.fill_conflict.Statement.{statement}
 use Rattle.slots.proofs.fill_conflict.Tie as tie
 
--- bytes written over as many others are the whole
+-- Bytes that are written over a buffer of the same length replace all of it.
 all-written : (buffer bytes : List ℕ) → length buffer ≡ length bytes → written buffer bytes ≡ bytes
 unfolding written hasRoom
 all-written buffer bytes e =

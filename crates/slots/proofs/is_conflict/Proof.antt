@@ -1,4 +1,4 @@
--- `is_conflict` meets its contract, by what its calls ensure.
+-- `is_conflict` meets its contract. This follows from the contracts of the functions that it calls.
 use Rattle.slots.specs.Slots.{isConflict}
 use borrow.Author.Needs.{needs}
 use Rattle.slots.proofs.is_conflict.Statement.{statement}

@@ -1,4 +1,5 @@
--- `is_filled` meets its contract: the content and the rest are cut at the size that stands in the slot, or at the slot's end.
+-- `is_filled` meets its contract. The definition splits the slot at the size that its length field gives. The code
+-- splits it there too, or at the slot's end if that comes first, which gives the same two parts.
 use Prim.Native.Nat.{_-_}
 use mathlib.Core.Path.{sym, ap, _∙_}
 use native.Mathlib.Nat.{min-le-right}

@@ -1,4 +1,4 @@
--- `bytes::byte_at` meets its contract: past the end a list gives 0.
+-- `bytes::byte_at` meets its contract. Past the end, `getD` gives its default, which is 0 here.
 use mathlib.Core.Path.{sym}
 use native.Mathlib.Omega.{arith}
 use borrow.Author.Needs.{needs}

@@ -1,5 +1,5 @@
--- `bytes::is_zero` meets its contract. The loop's invariant: what is found so far, and zeros in what is left, are zeros in all.
--- The measure is how many bytes are left.
+-- `bytes::is_zero` meets its contract. The loop invariant: the conjunction of the result so far and `isZero` of the
+-- bytes left is `isZero` of all bytes. The measure is the number of bytes left.
 use Prim.Native.Nat.{_≤_, _-_}
 use mathlib.Core.Path.{_≡_, refl, _∙_}
 use mathlib.Core.Bool.{_&&_, and-true}

@@ -1,5 +1,5 @@
--- `bytes::same_bytes` meets its contract. The loop's invariant: what is found so far, and the same in what is left, is the same in all.
--- The measure is how many bytes are left.
+-- `bytes::same_bytes` meets its contract. The loop invariant: the conjunction of the result so far and `sameBytes` of
+-- the bytes left is `sameBytes` of all bytes. The measure is the number of bytes left.
 use Prim.Native.Nat.{_≤_, _-_}
 use mathlib.Core.Path.{_≡_, refl, sym, _∙_}
 use mathlib.Core.Bool.{_&&_, and-true}
