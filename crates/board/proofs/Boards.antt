@@ -1,5 +1,7 @@
--- A board and what it holds are told by each other: the bytes of a board are those of what it holds (`board-held`), and what may
--- stand on a board is read back from its bytes (`held-board`). By induction on the slots, over any number of them.
+-- The bytes of a board and what it holds determine each other. The bytes of a board are those that `boardOf` makes from
+-- what it holds (`board-held`). In the other direction, at most 64 contents that slots may hold, with rising job
+-- numbers, make a board, and `heldOn` reads them back from it (`held-board`). Both are proved by induction on the
+-- slots, for any number of slots.
 use mathlib.Core.Path.{_≡_, refl, sym, ap, _∙_}
 use mathlib.Core.Bool.{Bool, true, false, cond, _&&_, _||_}
 use mathlib.Core.List.{List, [], _∷_, _++_, append-assoc}
@@ -17,12 +19,12 @@ use Rattle.slots.proofs.Held.{content-back, slot-filled, slot-not-zero, slot-jo
 use Rattle.board.specs.Board.{SLOTS, boardSize, inOrder, isBoard, heldIn, heldOn, slotsBytes}
 use Rattle.board.specs.Board.{boardOf, emptyBoard, HeldRising, none, next}
 
--- ---- bytes and zeros
+-- ---- bytes followed by zeros
 
 abbrev pub zeros : ℕ → List ℕ
 zeros n = replicate n 0
 
--- more zeros than are wanted change nothing
+-- More zeros than necessary give the same padded bytes.
 pad-more : (m j : ℕ) (y : List ℕ) → m ≤ j → take m (y ++ zeros j) ≡ padded m y
 unfolding padded
 pad-more m j y h =
@@ -32,7 +34,7 @@ pad-more m j y h =
     ∙ ap (take m) (sym (append-assoc y (zeros m) (zeros (j - m))))
     ∙ take-append-le m (y ++ zeros m) (zeros (j - m)) (omega (arith, length-append y (zeros m), length-replicate {A = ℕ} m 0))
 
--- bytes before zeros
+-- Padding x ++ y leaves x unchanged and pads y.
 pub padded-append : (k m : ℕ) (x y : List ℕ) → length x ≡ k → padded (k + m) (x ++ y) ≡ x ++ padded m y
 unfolding padded
 padded-append k m x y e =
@@ -45,11 +47,11 @@ pub padded-none : (n : ℕ) → padded n [] ≡ zeros n
 unfolding padded
 padded-none n = take-all n (zeros n) (omega (arith, length-replicate {A = ℕ} n 0))
 
--- the bytes of n slots that hold these
+-- The bytes of n slots: one slot for each content in the list, then zeros.
 unfoldable pub slotsIn : ℕ → List (List ℕ) → List ℕ
 slotsIn n cs = padded (n * answerRoom) (slotsBytes cs)
 
--- one slot more
+-- The size of n + 1 slots is that of one slot plus that of n slots.
 pub one-more : (n : ℕ) → suc n * answerRoom ≡ answerRoom + n * answerRoom
 one-more n = omega arith
 
@@ -123,7 +125,7 @@ board-held b h =
     let these = told SLOTS 0 b (eqb-true (length b) boardSize (parts .0)) (parts .1) in
     (these .rising, (these .few, these .bytes))
 
--- ---- and back
+-- ---- from contents to bytes
 
 slots-length : (n : ℕ) (cs : List (List ℕ)) → length (slotsIn n cs) ≡ n * answerRoom
 unfolding slotsIn

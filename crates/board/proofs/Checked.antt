@@ -1,6 +1,6 @@
--- A board checked slot by slot is checked as `isBoard` says: up to the first slot whose length is 0 each is filled and
--- the jobs rise, and all after it are zeros (`checked`). One slot more of a count (`count-next`, `count-ends`) and of
--- the test (`rising-next`) is a turn of a loop.
+-- The code's check of a board agrees with `inOrder`, and so with `isBoard`: up to the first slot whose length field is
+-- 0, every slot is filled and the jobs rise, and all bytes after these slots are 0 (`checked`). The remaining lemmas
+-- are loop steps: one more slot is counted (`count-next`, `count-ends`) or tested (`rising-next`).
 use mathlib.Core.Path.{_≡_, refl, sym, ap, _∙_}
 use mathlib.Core.Bool.{Bool, true, false, cond, not, _&&_, and-assoc, or-false}
 use mathlib.Core.List.{List, [], _∷_}
@@ -20,7 +20,7 @@ use Rattle.board.proofs.Boards.{one-more}
 use Rattle.board.specs.Board.{inOrder}
 use Rattle.board.specs.Internals.{slotsWhile, slotsBeforeFree, filledRising}
 
--- a filled slot has a length that is not 0
+-- A slot whose length field is 0 is not filled.
 named : (s : List ℕ) → length s ≡ answerRoom → valueOf LENGTH s ≡ 0 → isFilled s ≡ false
 named s e z = by (isFilled s) refl
   where
@@ -72,9 +72,9 @@ checked (suc n) above b e =
         (sym (and-assoc first (filledRising k (jobOf slot) rest) (isZero (drop (k * answerRoom) rest)))
         ∙ ap (λ (x : Bool). first && filledRising k (jobOf slot) rest && x) after)
 
--- ---- one slot more
+-- ---- one more slot
 
--- all that stands from a place on
+-- The slice from an index to the end is all bytes from that index on.
 pub rest-is : (from : ℕ) (b : List ℕ) → take (length b - from) (drop from b) ≡ drop from b
 rest-is from b = take-all (length b - from) (drop from b) (omega (arith, length-drop from b))
 
@@ -97,7 +97,8 @@ rising-next n i b h above = rw (left n i h, after i b) refl
 -- ---- a count of slots that pass a test
 
 module _ (test : List ℕ → Bool) (n : ℕ) (b : List ℕ) where
-  -- i slots were passed, and those and the ones still to be counted are the whole count: the invariant of a loop that counts
+  -- The invariant of a counting loop: i slots passed the test so far, and i plus the count over the remaining slots is
+  -- the whole count.
   abbrev pub Counted : ℕ → Type 0
   Counted i = (i ≤ n) × (i + slotsWhile test (n - i) (drop (i * answerRoom) b) ≡ slotsWhile test n b)
 

@@ -1,6 +1,7 @@
--- How a record goes into a board, in its bytes: the slots before its job stay, and the slot of its job is joined (`enters-slot`), or the
--- slots after it are moved up and it stands in a slot of its own (`enters-new`), or there is none free (`enters-none`): as `placed` says of
--- what is held.
+-- A record changes the bytes of a board as `placed` changes what the board holds. The slots of lower jobs stay the
+-- same. If there is a slot of the record's job, the record is joined to it (`enters-slot`). Otherwise, if a slot is
+-- free, the later slots move up and the record gets a slot of its own (`enters-new`). If no slot is free, the record is
+-- refused with B3 (`enters-none`). `goes` collects these cases for the routes of `routeOf`.
 use mathlib.Core.Path.{_≡_, refl, sym, ap, _∙_}
 use mathlib.Core.Bool.{Bool, true, false, cond, _&&_}
 use mathlib.Core.List.{List, [], _∷_, _++_, append-assoc, append-nil}
@@ -27,7 +28,7 @@ use Rattle.board.specs.Board.{HeldRising, next}
 use Rattle.board.specs.Internals.{slotsWhile, slotsBeforeFree, slotsBelow, routeOf, movedUp}
 use Rattle.board.proofs.Boards.{one-more, zeros, padded-append, slotsIn, slots-next, slots-none, board-held}
 
--- ---- the bytes of slots one after another
+-- ---- the bytes of consecutive slots
 
 slots-join : (pre post : List (List ℕ)) → slotsBytes (pre ++ post) ≡ slotsBytes pre ++ slotsBytes post
 unfolding slotsBytes
@@ -49,7 +50,8 @@ slots-append m pre post =
     sum : (a b : ℕ) → (a + b) * answerRoom ≡ a * answerRoom + b * answerRoom
     sum a b = omega arith
 
--- the slot after some, and what it holds put in its place
+-- The slot that follows the slots of `pre`: its bytes (`the-slot`), and the bytes after another content is written to
+-- it (`put-slot`).
 module _ (m : ℕ) (pre post : List (List ℕ)) where
   around : (c : List ℕ) → slotsIn (length pre + suc m) (pre ++ (c ∷ post)) ≡ slotsBytes pre ++ (slotOf c ++ slotsIn m post)
   around c = slots-append (suc m) pre (c ∷ post) ∙ ap (λ l. slotsBytes pre ++ l) (slots-next m c post)
@@ -73,7 +75,7 @@ module _ (m : ℕ) (pre post : List (List ℕ)) where
       ap (drop answerRoom) (from-slot c) ∙ drop-at (slotOf c) (slotsIn m post) answerRoom (padded-length answerRoom c) in
       rw (before, behind) (sym (around x))
 
--- bytes moved up, and others put in the place that they leave
+-- Moving Q up by one slot, over zs, and writing X into the gap inserts X between P and Q.
 put-moved : (p q : ℕ) (P Q zs Z X : List ℕ) → length P ≡ p → length Q ≡ q → length zs ≡ answerRoom →
     putMid p answerRoom (movedUp p (p + q) (P ++ (Q ++ (zs ++ Z)))) X ≡ P ++ (X ++ (Q ++ Z))
 unfolding movedUp
@@ -100,7 +102,7 @@ put-moved p q P Q zs Z X hp hq hz =
     back : (a b : ℕ) → a + b - a ≡ b
     back a b = omega arith
 
--- a slot of its own, before some and after others
+-- Moving the slots of `post` up by one slot and writing a slot for x into the gap inserts it between `pre` and `post`.
 put-between : (m : ℕ) (pre post : List (List ℕ)) (x : List ℕ) →
     let n = length pre + (length post + suc m) in
     putMid (length pre * answerRoom) answerRoom
@@ -134,7 +136,7 @@ put-between m pre post x =
         ap (λ (k : ℕ). slotsIn (length pre + k) (pre ++ (x ∷ post))) (shift (length post) m) ∙ around (length post + m) pre post x
         ∙ ap (λ l. slotsBytes pre ++ (slotOf x ++ l)) (tail m)
 
--- ---- where a record goes among what is held
+-- ---- the index of a record among what is held
 
 below : List (List ℕ) → ℕ → ℕ
 below [] job = 0
@@ -149,7 +151,7 @@ below-le (c ∷ cs) job = by (below-le cs job) (ltb (jobOf c) job)
     by h true = omega arith
     by h false = omega arith
 
--- what is held from there on, once the record has come
+-- What is held from that index on, after the record is placed.
 settled : List (List ℕ) → List ℕ → List (List ℕ)
 settled [] new = new ∷ []
 settled (c ∷ cs) new = cond (eqb (jobOf c) (jobOf new)) (joined c new ∷ cs) (new ∷ c ∷ cs)
@@ -213,13 +215,13 @@ rising-held above zero (d ∷ ds) {c} (next low held r) e = let same : d ≡ c =
 rising-held above (suc k) [] r e = absurd (nothing e)
 rising-held above (suc k) (d ∷ ds) (next low held r) e = rising-held (jobOf d) k ds r e
 
--- ---- how a record goes into a board
+-- ---- a record that is posted on a board
 
--- it is at the end of what is held, or at another job
+-- Index i is not a slot of the record's job: it is past the filled slots, or its slot has another job.
 abbrev NotThere : List ℕ → List ℕ → ℕ → Type 0
 NotThere b new i = (slotsBeforeFree SLOTS b ≤ i) ⊎ (jobOf (drop (i * answerRoom) b) ≡ jobOf new → ⊥)
 
--- what a call returns and leaves, as `placedOn` says
+-- The returned value and the bytes after the call are those that `placedOn` gives.
 abbrev pub Gives : List ℕ → List ℕ → Posted → List ℕ → Type 0
 Gives b new posted after = (posted ≡ placedOn b new .posted) × (after ≡ placedOn b new .board)
 
@@ -255,7 +257,7 @@ module _ (b new : List ℕ) (board : isBoard b ≡ true) where
   unfolding placedOn
   taken held e h = rw (e, le-ltb SLOTS (length held) h) (refl, refl)
 
-  -- ---- the slot at its place
+  -- ---- the slot at the record's index
   module _ (c : List ℕ) (post : List (List ℕ)) (e : drop place cs ≡ c ∷ post) where
     after : length cs ≡ place + suc (length post)
     after = omega (arith, length-drop place cs, ap length e, below-le cs (jobOf new))
@@ -289,7 +291,7 @@ module _ (b new : List ℕ) (board : isBoard b ≡ true) where
         ∙ put-slot (SLOTS - suc place) pre post c x
         ∙ ap (λ (n : ℕ). slotsIn n (pre ++ (x ∷ post))) (sym free)
 
-  -- ---- the three ways, at the place that the code finds
+  -- ---- the three cases, at the index that the code finds
   module _ (i : ℕ) (at : i ≡ slotsBelow (slotsBeforeFree SLOTS b) (jobOf new) b) where
     found : i ≡ place
     found = at ∙ place-is
@@ -387,7 +389,8 @@ pub board-size : (b : List ℕ) → isBoard b ≡ true → length b ≡ boardSiz
 unfolding isBoard
 board-size b h = eqb-true (length b) boardSize (both (eqb (length b) boardSize) (inOrder SLOTS 0 b) h .0)
 
--- what each route leads to
+-- What `place` needs to know about each route: its slices are within the board, a slot that is joined meets the
+-- precondition of `join`, and the steps of the route give what `placedOn` says.
 pub record JoinsAt (b new : List ℕ) (from : ℕ) : Type 0 where
   pub fits : from + answerRoom ≤ boardSize
   pub ready : midOf from answerRoom b ≡ slotOf (contentOf (midOf from answerRoom b))

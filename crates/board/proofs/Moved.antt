@@ -1,5 +1,5 @@
--- Bytes moved up by a slot, one at a time from the last on: what has been moved so far is `movedUp` from a later place, and one byte
--- more moves that place down by one (`move-next`).
+-- Bytes are moved up by one slot, one at a time, from the last byte to the first. After some of these moves the board
+-- is `movedUp` from a higher start, and moving one more byte lowers that start by one (`move-next`).
 use mathlib.Core.Path.{_≡_, sym, ap, _∙_}
 use mathlib.Core.List.{List, _∷_, _++_, append-assoc, append-nil}
 use Prim.Native.Nat.{ℕ, suc, _+_, _-_, _≤_, _<_}
@@ -25,7 +25,7 @@ move-length from to b h k =
     length-append (take (from + answerRoom) b ++ mid) (drop (to + answerRoom) b)
     ∙ omega (arith, length-append (take (from + answerRoom) b) mid, first, middle, length-drop (to + answerRoom) b, h, k)
 
--- the bytes from i on, up to a place, begin with the one at i
+-- The bytes from i up to `to` begin with the byte at i.
 begins : (i to : ℕ) (b : List ℕ) → i < to → i < length b → take (to - i) (drop i b) ≡ getD b i 0 ∷ take (to - suc i) (drop (suc i) b)
 begins i to b h k =
     let one : to - i ≡ suc (to - suc i) = omega arith in

@@ -1,4 +1,4 @@
-// Whether bytes are a board.
+// Decides whether bytes are a board.
 ghost use mathlib.Core.Path.{_≡_};
 ghost use Prim.Native.Nat.{_*_, _≤_};
 ghost use lib.ListN.{length, drop};
@@ -22,7 +22,7 @@ pub(crate) fn is_board(board: &[u8]) -> bool
     are_filled(board, filled) && slots::is_zero(&board[end..])
 }
 
-// How many slots come before the first whose length is 0; on a board these are the filled ones.
+// Returns how many slots come before the first one whose length field is 0. On a board these are the filled slots.
 pub(crate) fn filled_slots(board: &[u8]) -> usize
     requires { ⌜ length (now board) ≡ boardSize ⌝ }
     ensures most { λ r. ⌜ r ≤ SLOTS ⌝ }
@@ -35,7 +35,7 @@ pub(crate) fn filled_slots(board: &[u8]) -> usize
     n
 }
 
-// The length that the slot of index i begins with.
+// Returns the length field of the slot with index i.
 fn length_in(board: &[u8], i: usize) -> u32
     requires { ⌜ (length (now board) ≡ boardSize) × (i ≤ SLOTS) ⌝ }
     ensures { λ r. ⌜ r ≡ valueOf LENGTH (drop (i * answerRoom) (now (board .entry))) ⌝ }
@@ -44,7 +44,7 @@ fn length_in(board: &[u8], i: usize) -> u32
     length_of(&board[from..])
 }
 
-// Whether the first n slots are filled, in rising job number from above 0 on.
+// Reports whether the first n slots are filled and have rising job numbers above 0.
 fn are_filled(board: &[u8], n: usize) -> bool
     requires { ⌜ (length (now board) ≡ boardSize) × (n ≤ SLOTS) ⌝ }
     ensures { λ r. ⌜ r ≡ filledRising n 0 (now (board .entry)) ⌝ }

@@ -1,5 +1,5 @@
-// How a record goes into a board: its place among the slots, the slots after it moved up, and what it makes of a slot of
-// its own job.
+// Puts a record into a board: finds its index among the slots, moves later slots up if it needs a slot of its own, and
+// changes the slot of its job if there is one.
 ghost use mathlib.Core.Path.{_≡_};
 ghost use mathlib.Core.Bool.{true};
 ghost use Prim.Native.Nat.{_+_, _*_, _≤_};
@@ -15,15 +15,19 @@ use records::ANSWER_ROOM;
 use records::job_of;
 use records::revision_of;
 
-// How a record of a job goes into a board: it joins the slot from a place on; it enters between two slots, at a place, and
-// the slots from there up to another place are moved up; or there is no slot for it.
+// How a record of a job goes into a board.
+// - `Joins(from)`: its job has a slot, which starts at byte offset `from`.
+// - `Enters(from, end)`: it gets a new slot at byte offset `from`, and the slots from there up to byte offset `end` are
+//   moved up.
+// - `NoneFree`: its job has no slot, and no slot is free.
 enum Route {
     Joins(usize),
     Enters(usize, usize),
     NoneFree,
 }
 
-// Places a record, which is not malformed, on a board.
+// Puts a record into a board, or refuses it with B3 if no slot is free for a new job. The caller has checked that the
+// record is well formed and that its job is not 0.
 pub(crate) fn place(board: &mut [u8], message: &[u8]) -> Posted
     requires { ⌜ isBoard (now board) ≡ true ⌝ }
     ensures result { λ r. ⌜ r ≡ placedOn (now (board .entry)) (now (message .entry)) .posted ⌝ }
@@ -61,7 +65,7 @@ fn route_of(board: &[u8], job: u32) -> Route
     Route::Enters(from, filled * ANSWER_ROOM)
 }
 
-// How many of the first n slots come before a job.
+// Returns how many of the first n slots come before the first one whose job is not below the given job.
 fn slots_below(board: &[u8], n: usize, job: u32) -> usize
     requires { ⌜ (length (now board) ≡ boardSize) × (n ≤ SLOTS) ⌝ }
     ensures most { λ r. ⌜ r ≤ n ⌝ }
@@ -74,7 +78,7 @@ fn slots_below(board: &[u8], n: usize, job: u32) -> usize
     i
 }
 
-// The job that the slot of index i names.
+// Returns the job of the slot with index i.
 fn job_in(board: &[u8], i: usize) -> u32
     requires { ⌜ (length (now board) ≡ boardSize) × (i ≤ SLOTS) ⌝ }
     ensures { λ r. ⌜ r ≡ jobOf (drop (i * answerRoom) (now (board .entry))) ⌝ }
@@ -83,7 +87,7 @@ fn job_in(board: &[u8], i: usize) -> u32
     job_of(&board[from..])
 }
 
-// What a record of its job makes of a slot.
+// The effect of a record on the slot of its job: none, the record replaces the content, or a conflict replaces it.
 enum Change {
     Nothing,
     Replaced,
@@ -126,7 +130,7 @@ fn join(slot: &mut [u8], message: &[u8])
     }
 }
 
-// Moves the bytes between two places up by one slot.
+// Moves the bytes `from..to` of the board up by one slot.
 fn move_up(board: &mut [u8], from: usize, to: usize)
     requires { ⌜ (from ≤ to) × (to + answerRoom ≤ length (now board)) ⌝ }
     ensures { λ _. ⌜ now (board .exit) ≡ movedUp from to (now (board .entry)) ⌝ }

@@ -1,4 +1,4 @@
--- `post` meets its contract: the refusals in their order, and then `place`.
+-- `post` meets its contract. The proof follows the code: first the refusals B0, B1 and B2 in this order, then `place`.
 use mathlib.Core.Path.{_≡_, refl, sym, _∙_}
 use mathlib.Core.Bool.{true, false}
 use mathlib.Core.List.{List}
@@ -16,7 +16,7 @@ is-board-requires c κs = search needs
 same-length : tie.Need-same-length
 same-length c = search needs
 
--- the board and the record that comes in, and what the tests found of them
+-- The board and the posted record, and what the tests found about them.
 abbrev board-at : tie.After-is-board → List ℕ
 board-at c = c .before .before .before .before .args .board .now
 

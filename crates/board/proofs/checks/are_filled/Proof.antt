@@ -1,5 +1,5 @@
--- `are_filled` meets its contract. The loop's invariant: what was found of the slots that were passed, and what holds of the rest, is what
--- holds of all. The measure is how many are left.
+-- `are_filled` meets its contract. The loop invariant: the conjunction of the result so far and `filledRising` of the
+-- remaining slots is `filledRising` of all n slots. The measure is the number of slots left.
 use mathlib.Core.Path.{_≡_, refl, sym, ap, _∙_}
 use mathlib.Core.Bool.{Bool, true, _&&_, and-assoc, and-true}
 use Prim.Native.Nat.{ℕ, _+_, _-_, _*_, _≤_}

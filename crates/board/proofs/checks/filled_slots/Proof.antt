@@ -1,5 +1,5 @@
--- `filled_slots` meets its contract. The loop's invariant: n slots were passed, and those and the ones still to be counted are the whole
--- count. The measure is how many are left.
+-- `filled_slots` meets its contract. The loop invariant is `Counted`: n slots passed the test so far, and n plus the
+-- count over the remaining slots is the whole count. The measure is the number of slots left.
 use Prim.Native.Nat.{ℕ, _-_}
 use mathlib.Core.Path.{_∙_, sym, ap}
 use mathlib.Core.Bool.{not}

@@ -1,4 +1,5 @@
--- `is_board` meets its contract: the slots before the first of length 0 are asked one by one, and the rest for zeros.
+-- `is_board` meets its contract. The code tests each slot before the first one whose length field is 0, and then tests
+-- that all remaining bytes are 0. `checked` shows that this is the definition's test.
 use mathlib.Core.Path.{_≡_, refl, sym, ap, _∙_}
 use mathlib.Core.Bool.{true, false, _&&_}
 use mathlib.Core.List.{List}
@@ -15,7 +16,7 @@ use Rattle.board.proofs.Checked.{checked, rest-is}
 use Rattle.board.proofs.checks.is_board.Statement.{statement}
 use Rattle.board.proofs.checks.is_board.Tie as tie
 
--- the two tests of a board of the right size
+-- For bytes of the right size, `isBoard` is the conjunction of the two tests that the code makes.
 tested : (b : List ℕ) → length b ≡ boardSize →
     let n = slotsBeforeFree SLOTS b in
     isBoard b ≡ filledRising n 0 b && isZero (drop (n * answerRoom) b)

@@ -1,4 +1,4 @@
--- `length_in` meets its contract: what is read is all that stands from the slot on.
+-- `length_in` meets its contract. The slice that it reads contains all bytes from the start of the slot on.
 use mathlib.Core.Path.{ap, _∙_}
 use Prim.Native.Nat.{_*_}
 use native.Mathlib.Omega.{arith}

@@ -1,4 +1,5 @@
--- `change_of` meets its contract: by the two revisions, and by the bytes where these are equal.
+-- `change_of` meets its contract. The proof splits on which revision is higher and, if they are equal, on whether the
+-- bytes are the same.
 use mathlib.Core.Path.{_≡_, refl, sym, ap, _∙_}
 use mathlib.Core.Bool.{false}
 use mathlib.Core.List.{List}
@@ -23,20 +24,20 @@ revision-of-requires c κs = search needs
 revision-of-requires-2 : tie.Need-revision-of-requires-2
 revision-of-requires-2 c κs = search needs
 
--- the slot, and the record that comes in
+-- The slot and the posted record.
 abbrev slot-at : tie.After-revision-of2 → List ℕ
 slot-at c = c .before .before .before .before .args .slot .now
 
 abbrev message-at : tie.After-revision-of2 → List ℕ
 message-at c = c .before .before .before .before .args .message .now
 
--- a slot and its content name the same revision
+-- A slot and its content have the same revision.
 same-revision : (c : tie.After-revision-of2) → revisionOf (contentOf (slot-at c)) ≡ revisionOf (slot-at c)
 same-revision c =
     let ready = c .before .before .before .before .pre in
     sym (ap revisionOf ready ∙ slot-revision (contentOf (slot-at c)))
 
--- the bytes that are compared are the content
+-- The bytes that the code compares with the record are the slot's content.
 abbrev read-at : tie.After-same-bytes → tie.After-revision-of2
 read-at c = c .before .before .before .before .before
 
@@ -80,7 +81,7 @@ slice-aggregate-same-bytes c =
 same-bytes-requires : tie.Need-same-bytes-requires
 same-bytes-requires c κs = search needs
 
--- neither revision is below the other
+-- Neither revision is below the other.
 level : (c : tie.After-same-bytes) →
     let held = revisionOf (slot-at (read-at c)) in
     let new = revisionOf (message-at (read-at c)) in

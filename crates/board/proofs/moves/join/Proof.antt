@@ -1,4 +1,4 @@
--- `join` meets its contract: each change fills the slot with what `joined` gives.
+-- `join` meets its contract. After each kind of change the slot holds what `joined` gives.
 use mathlib.Core.Path.{_≡_, sym, ap, _∙_}
 use mathlib.Core.List.{List}
 use Prim.Native.Nat.{ℕ}
@@ -42,7 +42,7 @@ fill-conflict-requires c κs = search needs
 same-length : tie.Need-same-length
 same-length c = search needs
 
--- the slot, the record that comes in, and that the slot is one
+-- The slot, the posted record, and the precondition: the slot is the one made from its content.
 abbrev slot-at : tie.After-change-of → List ℕ
 slot-at c = c .before .before .before .before .args .slot .now
 
@@ -52,11 +52,11 @@ message-at c = c .before .before .before .before .args .message .now
 ready : (c : tie.After-change-of) → slot-at c ≡ slotOf (contentOf (slot-at c))
 ready c = c .before .before .before .before .pre
 
--- it has the size of one
+-- So it has the size of a slot.
 sized : (c : tie.After-change-of) → length (slot-at c) ≡ answerRoom
 sized c = ap length (ready c) ∙ padded-length answerRoom (contentOf (slot-at c))
 
--- what is held after the change that was found
+-- The change that `change_of` found leads to what `joined` gives.
 becomes : (c : tie.After-change-of) (r : Change) → c .change-of .result ≡ r →
     changed r (contentOf (slot-at c)) (message-at c) ≡ joined (contentOf (slot-at c)) (message-at c)
 becomes c r e = ap (λ (x : Change). changed x (contentOf (slot-at c)) (message-at c)) (sym e) ∙ c .change-of .ensures

@@ -1,5 +1,5 @@
--- `move_up` meets its contract. The loop's invariant: the bytes from i on have been moved, which is `movedUp` from i.
--- The measure is how far i still is from the first.
+-- `move_up` meets its contract. The loop invariant: the bytes from i up to `to` have been moved, so the board is
+-- `movedUp` from i. The measure is the distance of i from `from`.
 use mathlib.Core.Path.{_≡_, sym, ap, _∙_}
 use mathlib.Core.List.{List}
 use Prim.Native.Nat.{ℕ, suc, _+_, _-_, _≤_}
@@ -23,7 +23,7 @@ loop-holds c = (omega arith, (omega arith, sym (move-none (c .args .to) (c .args
 sub-i : tie.Need-sub-i Inv-loop μ-loop
 sub-i c = omega arith
 
--- the bytes keep their number
+-- The number of bytes stays the same.
 still : (c : tie.At-loop Inv-loop μ-loop) → length (c .loop .board) ≡ length (c .before .args .board .now)
 still c =
     let a = c .before .args in

@@ -1,4 +1,4 @@
--- `place` meets its contract: each route that `route_of` finds leads to what `placedOn` says (`goes`).
+-- `place` meets its contract. Each route that `route_of` finds leads to what `placedOn` gives (`goes`).
 use mathlib.Core.Path.{_≡_, sym, ap, _∙_, subst}
 use mathlib.Core.List.{List}
 use Prim.Native.Nat.{ℕ, _+_, _-_}
@@ -29,7 +29,7 @@ route-of-requires c κs =
 enum-known-from : tie.Need-enum-known-from
 enum-known-from c = search needs
 
--- the board, its size, and the record that comes in
+-- The board, the posted record, and the size of the board.
 abbrev board-at : tie.After-route-of → List ℕ
 board-at c = c .before .before .before .before .before .args .board .now
 
@@ -39,7 +39,7 @@ message-at c = c .before .before .before .before .before .args .message .now
 size : (c : tie.After-route-of) → length (board-at c) ≡ boardSize
 size c = board-size (board-at c) (c .before .before .before .before .before .pre)
 
--- the route that was found, and what it leads to
+-- What the route that was found leads to.
 leads : (c : tie.After-route-of) (w : Route) → c .route-of .result ≡ w → Goes (board-at c) (message-at c) w
 leads c w e =
     let read = c .before in
@@ -50,7 +50,7 @@ leads c w e =
 part : (from : ℕ) → from + answerRoom - from ≡ answerRoom
 part from = omega arith
 
--- the places that a route tells
+-- The byte offsets that a route carries.
 abbrev from-at : tie.After-from → ℕ
 from-at c = c .from .given .0 .0
 
@@ -98,7 +98,7 @@ sub-fill c = search needs
 part-fill-start : tie.Need-part-fill-start
 part-fill-start c = search needs
 
--- the route that the bytes were moved by, the bytes then, and their number
+-- The route that the move follows (`told-at`), the bytes after the move (`moved`), and their number (`moved-size`).
 abbrev told-at : tie.After-move-up → tie.After-from2
 told-at c = c .before .before .before
 

@@ -1,4 +1,4 @@
--- `route_of` meets its contract: it asks what `routeOf` asks.
+-- `route_of` meets its contract. It makes the same tests as `routeOf`.
 use mathlib.Core.Path.{_≡_, refl}
 use mathlib.Core.Bool.{Bool, cond, _&&_}
 use mathlib.Core.List.{List}
@@ -14,8 +14,8 @@ use Rattle.board.specs.Internals.{slotsBeforeFree, slotsBelow, routeOf}
 use Rattle.board.proofs.moves.route_of.Statement.{statement}
 use Rattle.board.proofs.moves.route_of.Tie as tie
 
--- the route, by what is known of the slots: how many stand before the free ones and how many before the job, the job that stands there, and
--- what the two tests tell
+-- The route follows from what the calls find: the number n of slots before the first free one, the number i of slots
+-- below the job, the job of slot i, and the results of the two tests.
 by-tests : (b : List ℕ) (job : ℕ) {n i held : ℕ} {known full : Bool} →
     n ≡ slotsBeforeFree SLOTS b → i ≡ slotsBelow n job b → held ≡ jobOf (drop (i * answerRoom) b) →
     (ltb i n && eqb held job) ≡ known → eqb n SLOTS ≡ full →
@@ -35,7 +35,7 @@ mul-from c = search needs
 job-in-requires : tie.Need-job-in-requires
 job-in-requires c κs = search needs
 
--- what the calls found
+-- The arguments, and what the calls found.
 abbrev board-at : tie.After-job-in → List ℕ
 board-at c = c .before .before .before .before .args .board .now
 

@@ -1,5 +1,5 @@
--- `slots_below` meets its contract. The loop's invariant: i slots were passed, and those and the ones still to be counted are the whole
--- count. The measure is how many are left.
+-- `slots_below` meets its contract. The loop invariant is `Counted`: i slots passed the test so far, and i plus the
+-- count over the remaining slots is the whole count. The measure is the number of slots left.
 use Prim.Native.Nat.{ℕ, _-_}
 use mathlib.Core.Path.{_∙_, sym, ap}
 use native.Mathlib.Omega.{arith}
