@@ -1,5 +1,6 @@
--- 01's worked refusal posted on the empty board, and then another record of its job and revision: what is given, and
--- every byte of both boards. A board is too long to be computed, so `next-board` computes with what it holds.
+-- Two posts with concrete bytes: first 01's worked refusal on the empty board (`worked-taken`), then another record of
+-- the same job and revision (`another-clashes`). Each theorem gives the result and every byte of the board. A board is
+-- too long to compute with, so `next-board` computes with what it holds.
 use mathlib.Core.Path.{_≡_, refl, _∙_}
 use mathlib.Core.Bool.{Bool, true, _&&_}
 use mathlib.Core.List.{List, [], _∷_, _++_, append-assoc}
@@ -21,7 +22,7 @@ use Rattle.arrival_laws.specs.Messages.{Postable}
 use Rattle.board.proofs.Boards.{zeros, slotsIn, slots-next, slots-none}
 use Rattle.arrival_laws.proofs.Posting.{judged, taken-board, starts-board}
 
--- ---- the bytes of a board with one slot filled
+-- ---- the bytes of a board with one filled slot
 
 unfoldable pub alone : List ℕ → List ℕ
 alone c = c ++ zeros (boardSize - length c)
@@ -35,7 +36,7 @@ board-alone : (c : List ℕ) → length c ≤ answerRoom → boardOf (c ∷ []) 
 unfolding boardOf slotsIn alone
 board-alone c h = slots-alone (SLOTS - 1) c h
 
--- ---- a record on a board that holds these
+-- ---- a record posted on a board with known contents
 
 areBytes : List ℕ → Bool
 areBytes [] = true
@@ -69,7 +70,8 @@ next-board b new held on bytes postable room =
 
 -- ---- the cases
 
--- refusals of job 7, revision 2: 01's, with number 11, and one with number 9; and the conflict that they make
+-- Two refusals of job 7, revision 2: the one that 01 gives, with number 11 (`worked`), and one with number 9
+-- (`another`). Together they make the conflict `clash`.
 abbrev pub worked : List ℕ
 worked = 0x0C ∷ 0 ∷ 0 ∷ 0 ∷ 3 ∷ 0 ∷ 7 ∷ 0 ∷ 0 ∷ 0 ∷ 2 ∷ 0 ∷ 0 ∷ 0 ∷ 0x0B ∷ 0 ∷ []
 

@@ -1,5 +1,6 @@
--- Rising records whose jobs all stand in a list that names another job too are fewer than it (`few`): by taking the job
--- of the first one out of the list, since every later one has another.
+-- If a list contains the jobs of some records with rising job numbers, and also a job that none of them has, then there
+-- are fewer records than list elements (`few`). The proof is by induction on the records: it removes the job of the
+-- first record from the list, and every later record has another job.
 use mathlib.Core.Path.{_≡_, refl, sym, ap, _∙_}
 use mathlib.Core.List.{List, _∷_, List·Memᴰ, List·Memᴰ·head as here, List·Memᴰ·tail as there, List·Memᴰ·cases-cons as in-first}
 use mathlib.Core.Logic.{⊎-elim}
@@ -11,7 +12,7 @@ use Rattle.board.specs.Board.{HeldRising, none, next}
 use Rattle.arrival_laws.specs.Messages.{_∈_, NoneOf}
 use Rattle.arrival_laws.proofs.Placing.{above-all}
 
--- a list with one number less, which still has every other
+-- If a list contains j, then some list that is shorter by one still contains every number other than j.
 without : {j : ℕ} {js : List ℕ} → List·Memᴰ j js
     → (ks : List ℕ) × ((length js ≡ suc (length ks)) × ((k : ℕ) → List·Memᴰ k js → (k ≡ j → ⊥) → List·Memᴰ k ks))
 without (here {xs} e) = (xs, (refl, λ k m apart. ⊎-elim (λ f. absurd (apart (f ∙ sym e))) (λ n. n) (in-first m)))

@@ -1,6 +1,7 @@
--- What stands on the board after messages of any number of jobs is of the highest revision that came for its job
--- (`never-older`, and in the crew's words `no-older-refusal`), and it is a conflict exactly where two records of that
--- revision differ (`conflict-exactly`). Both are read off what the board holds (`holds-always`).
+-- After messages for any number of jobs, what the board holds for a job has the highest revision that came for this
+-- job: no postable message for it has a higher one (`never-older`). `no-older-refusal` is the special case of a refusal
+-- and a newer answer. The board holds a conflict for a job exactly if two different records of the highest revision
+-- came for it (`conflict-exactly`). These theorems follow from what the board holds (`holds-always`).
 use mathlib.Core.Path.{_≡_, sym, ap, _∙_}
 use mathlib.Core.Bool.{true}
 use mathlib.Core.List.{List}
@@ -23,7 +24,7 @@ module _ (ms : List (List ℕ)) (bytes : AllBytes ms) where
   never-older m i postable held j e =
       none-higher bytes (holds-always ms bytes held j) m (record { among = i; postable = postable; for = sym e })
 
-  -- the crew's sentence: a refusal of an older revision never stands once a newer answer has come, whichever came first
+  -- A refusal of an older revision is never on the board once a newer answer has come, whichever came first.
   pub no-older-refusal : (refusal answer : List ℕ) → answer ∈ ms → Postable answer → isAnswer answer ≡ true → isRefusal refusal ≡ true
       → jobOf refusal ≡ jobOf answer → revisionOf refusal < revisionOf answer → refusal ∈ heldOn (postAll emptyBoard ms) → ⊥
   no-older-refusal refusal answer i postable a r e older j = omega (arith, never-older answer i postable refusal j e)

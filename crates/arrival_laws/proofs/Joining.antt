@@ -1,6 +1,7 @@
--- What `joined` makes of what is held and a record of the same job, by its tests (`joining`): the later lemmas go by
--- these four cases. It is of their job, a slot may hold it, and joining the record again changes nothing
--- (`joined-again`), nor does joining an older one (`joined-kept`).
+-- The four cases of `joined`, for what is held and a new record (`joining`). The later lemmas split on these cases. If
+-- both are of one job, the result is of that job (`joined-job`). If a slot may hold both, a slot may hold the result
+-- (`joined-held`). Joining the record again changes nothing (`joined-again`), and joining a record of a lower revision
+-- or the bytes that are already held changes nothing (`joined-kept`).
 use mathlib.Core.Path.{_≡_, refl, ap, _∙_}
 use mathlib.Core.Bool.{Bool, true, false, cond}
 use mathlib.Core.List.{List}
@@ -19,7 +20,7 @@ use Rattle.slots.proofs.Zeros.{same-is, same-self, differ-is}
 use Rattle.little_endian.proofs.Numbers.{number-lt}
 use Rattle.slots.proofs.Conflicts.{conflict-held}
 
--- a record's job and revision are numbers of four bytes
+-- The job and the revision of a record are numbers of four bytes, so they are below 2^32.
 pub small-job : (m : List ℕ) → AreBytes m → jobOf m < 2 ^ 32
 small-job m bytes = number-lt (JOB .width) (JOB .offset) m bytes
 
@@ -56,7 +57,7 @@ joined-held (older l) f g = f
 joined-held (again s) f g = f
 joined-held {new} (clash s d) f g = conflict-held (jobOf new) (revisionOf new)
 
--- a lower revision, or the same bytes
+-- A record of a lower revision, or with the bytes that are already held, changes nothing.
 pub joined-kept : {held new c : List ℕ} → Joining held new c → (revisionOf new < revisionOf held) ⊎ (held ≡ new) → c ≡ held
 joined-kept (newer l) (inl k) = absurd (omega arith)
 joined-kept (newer l) (inr e) = absurd (omega (arith, ap revisionOf e))
@@ -65,7 +66,8 @@ joined-kept (again s) how = refl
 joined-kept (clash s d) (inl k) = absurd (omega arith)
 joined-kept (clash s d) (inr e) = absurd (d e)
 
--- of one revision: the bytes that are held, or a conflict
+-- If the revisions are equal, the result is the held bytes if they are the same as the new ones, and otherwise a
+-- conflict.
 level : (held new : List ℕ) → revisionOf held ≡ revisionOf new
     → joined held new ≡ cond (sameBytes held new) held (conflictBytes (jobOf new) (revisionOf new))
 unfolding joined

@@ -1,6 +1,6 @@
--- What is held says what came, whatever the order: the invariant `Keeps` of the records that were seen and what is held
--- of them. A postable record, placed, keeps it (`keeps-more`), and so does one that is refused (`keeps-refused`),
--- over any number of jobs. By the cases of `placed` and, where the job is held, of `joined`.
+-- The invariant `Keeps` relates the messages that were seen, in any order, to what is held. It is preserved when a
+-- postable record is placed (`keeps-more`) and when a record is refused (`keeps-refused`), for any number of jobs. The
+-- proofs split on the cases of `placed` and, if the job is already held, of `joined`.
 use mathlib.Core.Path.{_≡_, refl, sym, ap, _∙_}
 use mathlib.Core.Bool.{Bool, true, false}
 use mathlib.Core.List.{List, _∷_, List·Memᴰ·head as here, List·Memᴰ·tail as there, List·Memᴰ·cases-cons as in-first}
@@ -21,11 +21,11 @@ use Rattle.slots.proofs.Held.{outcome-held}
 use Rattle.arrival_laws.proofs.Joining.{small-revision, Joining, newer, older, again, clash, joining, joined-job}
 use Rattle.arrival_laws.proofs.Placing.{placing, placed-rising, Comes, kept, first, met, comes, stays, arrives, Grown, grown}
 
--- no test is both passed and failed
+-- No test is both true and false.
 pub never : {P : Type 0} {t : Bool} → t ≡ true → t ≡ false → P
 never e f = absurd (let z : _≡_ {A = ℕ} 0 1 = cc (e, f) in omega arith)
 
--- ---- what is held of a job, by the records that came for it
+-- ---- what is held for a job, by the records that came for it
 
 module _ {ms : List (List ℕ)} {job : ℕ} {held : List ℕ} where
   pub some-came : HeldFor ms job held → (m : List ℕ) × CameFor ms job m
@@ -51,21 +51,21 @@ module _ {ms : List (List ℕ)} {job : ℕ} {held : List ℕ} where
         conflict = e;
       }
 
-  -- two that differ, and one record alone, are never both held
+  -- If two different records of the highest revision came, no record is the only one of the highest revision.
   pub not-one : {revision : ℕ} → TwoDiffer ms job revision → OneRecord ms job held → ⊥
   not-one {revision} t o = t .differ (is (t .one) (t .one-came) (t .one-at) ∙ sym (is (t .other) (t .other-came) (t .other-at)))
     where
       is : (m : List ℕ) → CameFor ms job m → revisionOf m ≡ revision → m ≡ held
       is m c e = ⊎-elim (λ s. s) (λ l. absurd (omega (arith, t .highest held (o .came)))) (o .highest m c)
 
-  -- it stands for these alone
+  -- What is held for a job depends only on the messages that came for this job.
   holds-same : {ns : List (List ℕ)} → ((m : List ℕ) → CameFor ms job m → CameFor ns job m)
       → ((m : List ℕ) → CameFor ns job m → CameFor ms job m) → HeldFor ms job held → HeldFor ns job held
   holds-same forth back (inl o) = inl (record { came = forth held (o .came); highest = λ m c. o .highest m (back m c) })
   holds-same forth back (inr o) = inr (conflict-in o forth (λ m c. o .two .highest m (back m c)) (o .conflict))
 
   module _ (all : AllBytes ms) where
-    -- a conflict is held at the revision of the records that differ
+    -- A conflict that is held has the revision of the two records that differ.
     pub conflict-at : (o : InConflict ms job held) → revisionOf held ≡ o .revision
     conflict-at o =
         let t = o .two in
@@ -76,7 +76,7 @@ module _ {ms : List (List ℕ)} {job : ℕ} {held : List ℕ} where
     none-higher (inl o) m c = ⊎-elim (λ e. omega (arith, ap revisionOf e)) (λ l. omega arith) (o .highest m c)
     none-higher (inr o) m c = omega (arith, conflict-at o, o .two .highest m c)
 
--- ---- one record more
+-- ---- one more record
 
 module _ {seen : List (List ℕ)} {m : List ℕ} where
   more : {job : ℕ} {n : List ℕ} → CameFor seen job n → CameFor (m ∷ seen) job n
@@ -97,7 +97,7 @@ module _ {seen : List (List ℕ)} {m : List ℕ} where
     now : CameFor (m ∷ seen) (jobOf m) m
     now = record { among = here refl; postable = postable; for = refl }
 
-    -- joined to what is held of its job
+    -- Joining the new record to what is held for its job gives what is to be held for this job from then on.
     holds-joined : {held c : List ℕ} → Joining held m c → HeldFor seen (jobOf m) held → HeldFor (m ∷ seen) (jobOf m) c
     holds-joined (newer l) h =
         inl (record { came = now; highest = λ n c. ⊎-elim inl (λ s. inr (omega (arith, none-higher all h n s))) (which c) })
@@ -128,14 +128,15 @@ module _ {seen : List (List ℕ)} {m : List ℕ} where
 
 -- ---- the invariant
 
--- rising records, each what its job's messages say; and, as long as they are not 64, one for each job of a postable
--- message. So a job enters with its first message, and one that a full board has no slot for never enters
+-- What is held has rising job numbers, and for each job it is what the messages for this job determine. As long as
+-- fewer than 64 jobs are held, the job of every postable message is held. So a job gets a slot with its first message,
+-- and a job for which a full board has no slot never gets one.
 pub record Keeps (seen held : List (List ℕ)) : Type 0 where
   pub rising : HeldRising 0 held
   pub holds : (c : List ℕ) → c ∈ held → HeldFor seen (jobOf c) c
   pub each : length held < SLOTS → (m : List ℕ) → m ∈ seen → Postable m → SomeOf (jobOf m) held
 
--- it goes by the messages that count, in any order and with any repeats
+-- The invariant depends only on which postable messages there are, not on their order or repeats.
 pub keeps-same : {ms ns held : List (List ℕ)} → ((m : List ℕ) → Postable m → m ∈ ms → m ∈ ns)
     → ((m : List ℕ) → Postable m → m ∈ ns → m ∈ ms) → Keeps ms held → Keeps ns held
 keeps-same forth back k = record {
@@ -146,13 +147,13 @@ keeps-same forth back k = record {
   each = λ room m i postable. k .each room m (back m postable i) postable;
 }
 
--- a message of another job changes nothing of what is held of a job
+-- A message that is not postable, or is for another job, does not change what is held for a job.
 others : {seen : List (List ℕ)} {m : List ℕ} {job : ℕ} {held : List ℕ} → (Postable m → jobOf m ≡ job → ⊥) → HeldFor seen job held
     → HeldFor (m ∷ seen) job held
 others f h =
     holds-same (λ n s. more s) (λ n s. ⊎-elim (λ e. absurd (f (rw e at (s .postable)) (sym (ap jobOf e) ∙ s .for))) (λ t. t) (which s)) h
 
--- one that is refused: it does not count, or there is no slot for its job
+-- A refused message: it is not postable, or the board is full and holds nothing for its job.
 pub keeps-refused : {seen held : List (List ℕ)} (m : List ℕ) → Keeps seen held
     → (Postable m → (length held ≡ SLOTS) × NoneOf (jobOf m) held) → Keeps (m ∷ seen) held
 keeps-refused m k f = record {

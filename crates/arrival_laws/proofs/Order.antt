@@ -1,6 +1,6 @@
 -- Every order of the same messages over at most 64 different jobs, with any repeats, ends in the same board
--- (`any-order`): `BoardAfter` fixes the board (`one-board`), since the messages for a job fix what is held of it
--- (`one-held`) and rising records are told by which they are (`one-list`).
+-- (`any-order`). `BoardAfter` determines the board (`one-board`), because the messages for a job determine what is held
+-- for it (`one-held`), and two lists of records with rising job numbers and the same elements are equal (`one-list`).
 use mathlib.Core.Path.{_≡_, refl, sym, ap, _∙_}
 use mathlib.Core.List.{List, List·Memᴰ·head as here, List·Memᴰ·tail as there, List·Memᴰ·not-nil as in-none}
 use mathlib.Core.List.{List·Memᴰ·cases-cons as in-first, Memᴰ·cast as of-same}
@@ -44,7 +44,7 @@ one-list (next {c} l h r) (next {c = d} k i s) forth back =
           (λ x m. ⊎-elim (λ f. absurd (omega (arith, above-all s m, ap jobOf f, ap jobOf e))) (λ n. n) (in-first (back x (there m)))),
     )
 
--- what one board holds the other does
+-- Everything that one of the boards holds, the other holds too.
 also : {ms : List (List ℕ)} {b d : List ℕ} → BoardAfter ms b → BoardAfter ms d → (c : List ℕ) → c ∈ heldOn b → c ∈ heldOn d
 also p q c i =
     let m = some-came (p .holds c i) in

@@ -1,7 +1,8 @@
--- What `placed` makes of rising records and one more, by its tests (`placing`): the later lemmas go by these four
--- cases. They still rise (`placed-rising`); where each of them comes from (`comes`), that no job is lost (`stays`,
--- `arrives`), how many they are (`grown`), that placing it again changes nothing (`placed-again`), nor does placing one
--- that changes nothing of what is held of its job (`placed-same`).
+-- The four cases of `placed`, for a list of records and one more record (`placing`). The later lemmas split on these
+-- cases. If the job numbers in the list rise, so do those in the result (`placed-rising`). The lemmas also show where
+-- each element of the result comes from (`comes`), that no job is lost (`stays`, `arrives`), and how many elements
+-- there are (`grown`). Placing the record again changes nothing (`placed-again`), nor does placing a record that does
+-- not change what is held for its job (`placed-same`).
 use mathlib.Core.Path.{_≡_, refl, sym, ap, _∙_}
 use mathlib.Core.Bool.{Bool, true, false, cond}
 use mathlib.Core.List.{List, [], _∷_, List·Memᴰ·head as here, List·Memᴰ·tail as there, List·Memᴰ·not-nil as in-none}
@@ -39,7 +40,7 @@ placing (c ∷ cs) new = by (ltb (jobOf c) (jobOf new)) refl (eqb (jobOf c) (job
         let apart : jobOf c ≡ jobOf new → ⊥ = eqb-false (jobOf c) (jobOf new) f in
         before {c = c} (omega (arith, ltb-false))
 
--- ---- rising records
+-- ---- rising job numbers
 
 pub above-all : {above : ℕ} {cs : List (List ℕ)} {c : List ℕ} → HeldRising above cs → c ∈ cs → above < jobOf c
 above-all none m = absurd (in-none m)
@@ -63,7 +64,7 @@ placed-rising {new} (meets {c} e) bytes h l (next low held r) =
     next (rw (← job) at low) (joined-held (joining c new) held h) (rw (← job) at r)
 placed-rising (after k p) bytes h l (next low held r) = next low held (placed-rising p bytes h k r)
 
--- ---- where each comes from
+-- ---- the origin of each element
 
 pub data Comes (new : List ℕ) (cs : List (List ℕ)) (c : List ℕ) : Type 0 where
   kept : c ∈ cs → (jobOf c ≡ jobOf new → ⊥) → Comes new cs c
@@ -101,7 +102,7 @@ arrives {new} (before k) bytes = (new, (here refl, refl))
 arrives {new} (meets {c} e) bytes = (joined c new, (here refl, joined-job (joining c new) bytes e))
 arrives (after k p) bytes = some-later (arrives p bytes)
 
--- ---- how many they are: one more exactly for a new job
+-- ---- the number of elements: one more exactly for a new job
 
 abbrev pub Grown : ℕ → List (List ℕ) → List (List ℕ) → Type 0
 Grown job cs ds = (NoneOf job cs × (length ds ≡ suc (length cs))) ⊎ (SomeOf job cs × (length ds ≡ length cs))
@@ -113,7 +114,7 @@ grown (meets {c} e) (next low held r) = inr ((c, (here refl, e)), refl)
 grown (after k p) (next low held r) =
     ⊎-elim (λ n. inl (none-first (λ g. omega arith) (n .0), ap suc (n .1))) (λ s. inr (some-later (s .0), ap suc (s .1))) (grown p r)
 
--- ---- once more
+-- ---- a record that is placed again
 
 at-job : (c new : List ℕ) (cs : List (List ℕ)) → jobOf c ≡ jobOf new → placed (c ∷ cs) new ≡ joined c new ∷ cs
 unfolding placed

@@ -1,8 +1,8 @@
--- One record that comes in, by the tests of `postOf` (`posting`): the refusals in their order, and the record that is
--- taken. A refusal changes nothing (`unchanged`), B3 is given exactly for a new job on a full board (`full-exactly`),
--- an older record or the same one changes nothing (`older-or-same`), and any record again changes nothing and has the
--- same result (`twice`). From the empty board on it stays a board whatever comes (`always-board`), so B0 is never given
--- (`never-b0`).
+-- The cases of `postOf` for one record (`posting`): the refusals in their order, and a record that is taken. A refusal
+-- changes nothing (`unchanged`). B3 is given exactly for a new job on a full board (`full-exactly`). A record that is
+-- older than the held one, or the same, changes nothing (`older-or-same`). Posting any record a second time changes
+-- nothing (`twice`) and has the same result (`twice-result`). From the empty board on, the bytes stay a board whatever
+-- is posted (`always-board`), so B0 is never given (`never-b0`).
 use mathlib.Core.Path.{_≡_, refl, sym, ap, _∙_}
 use mathlib.Core.Bool.{Bool, true, false, cond, not, true≢false}
 use mathlib.Core.List.{List, [], _∷_, List·Memᴰ·head as here, List·Memᴰ·tail as there}
@@ -24,7 +24,7 @@ use Rattle.board.proofs.Boards.{board-held, held-board, empty-board}
 use Rattle.arrival_laws.proofs.Joining.{joining, joined-kept}
 use Rattle.arrival_laws.proofs.Placing.{placing, placed-rising, placed-again, placed-same, grown}
 
--- what `postOf` gives where it takes the record
+-- What `postOf` gives if it takes the record.
 abbrev pub taking : List ℕ → List ℕ → Result
 taking b new = record { posted = Taken; board = boardOf (placed (heldOn b) new) }
 
@@ -63,7 +63,7 @@ module _ (b new : List ℕ) where
       by (full f postable over) e = refl
       by (taken f postable room) e = cc
 
-  -- ---- a postable record, on a board
+  -- ---- a postable record on a board
 
   pub judged : isBoard b ≡ true → Postable new → postOf b new ≡ placedOn b new
   unfolding postOf placedOn
@@ -71,7 +71,7 @@ module _ (b new : List ℕ) where
       let apart : jobOf new ≡ 0 → ⊥ = λ e. omega (arith, postable .named) in
       rw (f, postable .formed, ne-eqb (jobOf new) 0 apart)
 
-  -- no room for it: a full board, and no slot of its job
+  -- If the record does not fit, the board is full and has no slot of its job.
   pub no-room : isBoard b ≡ true → SLOTS < length (placed (heldOn b) new) → (length (heldOn b) ≡ SLOTS) × NoneOf (jobOf new) (heldOn b)
   no-room f over =
       let held = board-held b f in
@@ -99,7 +99,7 @@ module _ (b new : List ℕ) where
       by (full f postable over) e = (f, (postable, no-room f over))
       by (taken f postable room) e = absurd (omega (arith, ap postedNumber e))
 
-  -- it changes nothing of what is held of its job
+  -- A record that does not change what is held for its job is taken, and the board stays as it was.
   pub taken-same : (held : List ℕ) → isBoard b ≡ true → Postable new → held ∈ heldOn b → jobOf held ≡ jobOf new → joined held new ≡ held
       → postOf b new ≡ record { posted = Taken; board = b }
   unfolding placedOn
@@ -110,7 +110,7 @@ module _ (b new : List ℕ) where
       (ap (λ l. record { posted = Taken; board = l }) (sym (on .1 .1)))
 
   module _ (bytes : AreBytes new) where
-    -- the board that it is taken onto is one, and holds it placed among what was held
+    -- If the record fits, the new bytes are a board, which holds the record placed among what was held before.
     pub taken-board : isBoard b ≡ true → Postable new → length (placed (heldOn b) new) ≤ SLOTS →
         (isBoard (boardOf (placed (heldOn b) new)) ≡ true) × (heldOn (boardOf (placed (heldOn b) new)) ≡ placed (heldOn b) new)
     taken-board f postable room =
@@ -150,7 +150,7 @@ module _ (b new : List ℕ) (bytes : AreBytes new) where
   pub twice-result : postOf (postOf b new .board) new .posted ≡ postOf b new .posted
   twice-result = ap (λ (o : Result). o .posted) both
 
--- ---- a record that is older than what is held of its job, or the same
+-- ---- a record that is older than what is held for its job, or the same
 
 module _ (b new held : List ℕ) (f : isBoard b ≡ true) (postable : Postable new) (i : held ∈ heldOn b) (for : jobOf held ≡ jobOf new)
     (how : (revisionOf new < revisionOf held) ⊎ (held ≡ new)) where
@@ -163,7 +163,7 @@ module _ (b new held : List ℕ) (f : isBoard b ≡ true) (postable : Postable n
   pub older-or-same-taken : postOf b new .posted ≡ Taken
   older-or-same-taken = ap (λ (o : Result). o .posted) same
 
--- ---- any number of records, of any number of jobs
+-- ---- any number of records for any number of jobs
 
 pub starts-board : (isBoard emptyBoard ≡ true) × (heldOn emptyBoard ≡ [])
 starts-board = rw empty-board (held-board [] none (omega arith))
@@ -176,7 +176,7 @@ from b (m ∷ ms) f all = from (postOf b m .board) ms (stays-board b m (all m (h
 pub always-board : (ms : List (List ℕ)) → AllBytes ms → isBoard (postAll emptyBoard ms) ≡ true
 always-board ms all = from emptyBoard ms (starts-board .0) all
 
--- so none is ever refused B0
+-- After any messages on the empty board, no record is refused with B0.
 pub never-b0 : (ms : List (List ℕ)) (m : List ℕ) → AllBytes ms → postOf (postAll emptyBoard ms) m .posted ≡ Refused 0 → ⊥
 never-b0 ms m all e = by (posting (postAll emptyBoard ms) m) e
   where

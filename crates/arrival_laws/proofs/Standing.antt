@@ -1,7 +1,8 @@
--- What the board holds after messages: of any number of jobs, what its job's messages say (`holds-always`); over at
--- most 64 different jobs each job has a slot too (`stands`), also where the same messages came in another order or with
--- other repeats (`stands-for`). By the invariant `Keeps`, of those that have come so far, from message to message; over
--- few jobs a full board holds every one of them (`each-few`, by `few`).
+-- What the board holds after some messages. For any number of jobs, each slot holds what the messages for its job
+-- determine (`holds-always`). Over at most 64 different jobs, each job also has a slot (`stands`), even if the same
+-- messages came in another order or with other repeats (`stands-for`). The proof carries the invariant `Keeps`, for the
+-- messages seen so far, from message to message. Over at most 64 jobs, a full board holds every job (`each-few`, by
+-- `few`).
 use mathlib.Core.Path.{_≡_, refl}
 use mathlib.Core.Bool.{true}
 use mathlib.Core.List.{List, [], _∷_, List·Memᴰ, List·Memᴰ·head as here, List·Memᴰ·tail as there}
@@ -22,12 +23,12 @@ use Rattle.arrival_laws.proofs.Posting.{no-room, taken-board, starts-bo
 use Rattle.arrival_laws.proofs.Few.{few}
 use Rattle.arrival_laws.proofs.Keeping.{never, some-came, Keeps, keeps-same, keeps-refused, keeps-more}
 
--- a board that keeps what was seen
+-- A board for which `Keeps` holds with the messages seen.
 record On (seen : List (List ℕ)) (b : List ℕ) : Type 0 where
   board : isBoard b ≡ true
   keeps : Keeps seen (heldOn b)
 
--- all messages: those to come and those seen
+-- The messages in `all` are those to come and those seen.
 record Split (all coming seen : List (List ℕ)) : Type 0 where
   which : (m : List ℕ) → m ∈ all → (m ∈ coming) ⊎ (m ∈ seen)
   to-come : (m : List ℕ) → m ∈ coming → m ∈ all
@@ -73,7 +74,7 @@ module _ (all : List (List ℕ)) (bytes : AllBytes all) where
     keeps = rw (starts-board .1) (record { rising = none; holds = λ c i. absurd (in-none i); each = λ room m i c. absurd (in-none i) });
   }
 
-  -- of any number of jobs
+  -- The invariant holds after the same messages in any order, for any number of jobs.
   pub keeps-for : (ms : List (List ℕ)) → SameMessages all ms → Keeps all (heldOn (postAll emptyBoard ms))
   keeps-for ms same =
       steps emptyBoard ms (record { which = λ m i. inl (same .there m i); to-come = same .back; came = λ m i. absurd (in-none i) })
@@ -85,7 +86,7 @@ module _ (all : List (List ℕ)) (bytes : AllBytes all) where
   pub holds-always : (held : List ℕ) → held ∈ heldOn (postAll emptyBoard all) → HeldFor all (jobOf held) held
   holds-always held i = keeps-always .holds held i
 
-  -- over few jobs: while one has no slot, fewer than 64 have one, so the board is not full
+  -- Over at most 64 jobs: if a job has no slot, fewer than 64 jobs have one, so the board is not full.
   module _ (over : OverFewJobs all) where
     each-few : {held : List (List ℕ)} → Keeps all held → (m : List ℕ) → m ∈ all → Postable m → SomeOf (jobOf m) held
     each-few {held} k m i postable = ⊎-elim (λ n. k .each (room (n .0)) m i postable) (λ s. s .0) (grown (placing held m) (k .rising))

@@ -1,4 +1,4 @@
--- What a board holds after some messages, said without their order (02, A1). Definitions only.
+-- What a board holds after some messages, stated without reference to their order (02, A1). Definitions only.
 use Prim.Native.Nat.{ℕ, _≤_, _<_}
 use mathlib.Core.Path.{_≡_}
 use mathlib.Core.Bool.{true}
@@ -12,50 +12,52 @@ use Rattle.outcomes.specs.Outcomes.{isOutcome}
 use Rattle.board.specs.Board.{SLOTS, isBoard, heldOn, boardOf}
 unfoldable pub use Rattle.board.specs.Posting.{postAll}
 
--- bytes that stand in a list of such
+-- The bytes m are an element of the list ms.
 infix 20 _∈_
 abbrev pub _∈_ : List ℕ → List (List ℕ) → Type 0
 m ∈ ms = List·Memᴰ m ms
 
--- some held bytes are of a job, and none are
+-- Some element of the list is of the given job.
 abbrev pub SomeOf : ℕ → List (List ℕ) → Type 0
 SomeOf job cs = (c : List ℕ) × ((c ∈ cs) × (jobOf c ≡ job))
 
+-- No element of the list is of the given job.
 abbrev pub NoneOf : ℕ → List (List ℕ) → Type 0
 NoneOf job cs = (c : List ℕ) → c ∈ cs → jobOf c ≡ job → ⊥
 
--- the same messages, in any order and with any repeats
+-- Both lists have the same messages, in any order and with any repeats.
 pub record SameMessages (ms ns : List (List ℕ)) : Type 0 where
   pub there : (m : List ℕ) → m ∈ ms → m ∈ ns
   pub back : (m : List ℕ) → m ∈ ns → m ∈ ms
 
--- every message is bytes
+-- Every message consists of bytes, which are numbers below 256.
 abbrev pub AllBytes : List (List ℕ) → Type 0
 AllBytes ms = (m : List ℕ) → m ∈ ms → AreBytes m
 
--- a message that a board can take: not malformed, and of a job that is not 0
+-- A message that a board can take: it is well formed, and its job is not 0.
 pub record Postable (m : List ℕ) : Type 0 where
   pub formed : isOutcome m ≡ true
   pub named : 0 < jobOf m
 
--- one that came for a job
+-- A postable message in the list for the given job.
 pub record CameFor (ms : List (List ℕ)) (job : ℕ) (m : List ℕ) : Type 0 where
   pub among : m ∈ ms
   pub postable : Postable m
   pub for : jobOf m ≡ job
 
--- messages over at most 64 different jobs: a list of so many names the job of each postable one
+-- The messages are over at most 64 different jobs: a list of at most 64 jobs contains the job of every postable
+-- message.
 pub record OverFewJobs (ms : List (List ℕ)) : Type 0 where
   pub jobs : List ℕ
   pub few : length jobs ≤ SLOTS
   pub each : (m : List ℕ) → m ∈ ms → Postable m → List·Memᴰ (jobOf m) jobs
 
--- the one record of the highest revision that came for a job: every other is of a lower one
+-- The only record of the highest revision that came for a job: every other record for this job has a lower revision.
 pub record OneRecord (ms : List (List ℕ)) (job : ℕ) (held : List ℕ) : Type 0 where
   pub came : CameFor ms job held
   pub highest : (m : List ℕ) → CameFor ms job m → (m ≡ held) ⊎ (revisionOf m < revisionOf held)
 
--- two different records came for a job at a revision, and none of a higher one
+-- Two different records of the given revision came for a job, and no record of a higher revision.
 pub record TwoDiffer (ms : List (List ℕ)) (job revision : ℕ) : Type 0 where
   pub one : List ℕ
   pub other : List ℕ
@@ -66,18 +68,19 @@ pub record TwoDiffer (ms : List (List ℕ)) (job revision : ℕ) : Type 0 where
   pub differ : one ≡ other → ⊥
   pub highest : (m : List ℕ) → CameFor ms job m → revisionOf m ≤ revision
 
--- a conflict at that revision
+-- Two different records of the highest revision came for the job, and `held` is the conflict at that revision.
 pub record InConflict (ms : List (List ℕ)) (job : ℕ) (held : List ℕ) : Type 0 where
   pub revision : ℕ
   pub two : TwoDiffer ms job revision
   pub conflict : held ≡ conflictBytes job revision
 
--- what a board holds of a job
+-- What a board holds for a job: the only record of the highest revision, or a conflict.
 abbrev pub HeldFor : List (List ℕ) → ℕ → List ℕ → Type 0
 HeldFor ms job held = OneRecord ms job held ⊎ InConflict ms job held
 
--- a board after some messages: it is one (so its slots rise, one for a job), its bytes are those of what it holds, each
--- slot holds what the messages for its job say, and each job of a postable message has a slot
+-- A board after some messages: it is a board, so its job numbers rise and each job has one slot. Its bytes are those
+-- that `boardOf` makes from what it holds. Each slot holds what the messages for its job determine, and the job of
+-- every postable message has a slot.
 pub record BoardAfter (ms : List (List ℕ)) (b : List ℕ) : Type 0 where
   pub well-formed : isBoard b ≡ true
   pub slots : b ≡ boardOf (heldOn b)
