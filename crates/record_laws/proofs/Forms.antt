@@ -1,5 +1,6 @@
--- The record of every question has one of the three forms (`record-form`): by the verdict of the entrance, and past it by the first row
--- of 11 to 14.
+-- The record of every question has one of the three forms of `RecordForm` (`record-form`). The proof splits on the
+-- verdict of the entrance checks and, for an accepted question, on the first of the numbers 11 to 14 that applies, if
+-- any.
 use mathlib.Core.Path.{_≡_, refl, sym, ap, _∙_, subst}
 use mathlib.Core.Bool.{Bool, true, false, cond, _||_, true≢false}
 use mathlib.Core.List.{List, [], _∷_, map, List·Memᴰ, List·Memᴰ·not-nil as in-none, List·Memᴰ·cases-cons as in-first}
@@ -31,9 +32,9 @@ use Rattle.solver.specs.Table.{crossingCount, anyVoid, allFinite, lateChecks}
 use Rattle.solver.proofs.Numbering.{rows, rows-are, few}
 use Rattle.record_laws.specs.RecordForm.{RecordForm, not-question, refusal, answer}
 
--- ---- the rows 11 to 14
+-- ---- the numbers 11 to 14
 
--- each is after number 1 and in force
+-- Each of these numbers is above 1 and in 01's table.
 late-number : (none void ninth finite : Bool) → (rows none void ninth finite ≡ 0 → ⊥) →
     (firstNumber < rows none void ninth finite) × (rows none void ninth finite ≤ lastNumber)
 late-number true false ninth finite h = (omega arith, omega arith)
@@ -42,7 +43,7 @@ late-number false void true finite h = (omega arith, omega arith)
 late-number false void false false h = (omega arith, omega arith)
 late-number false void false true h = absurd (h refl)
 
--- where none applies there is a crossing
+-- If none of them applies, there is a crossing.
 some-crossing : (none void ninth finite : Bool) → rows none void ninth finite ≡ 0 → none ≡ false
 some-crossing false void ninth finite e = refl
 some-crossing true false ninth finite e = absurd (omega (arith, e))
@@ -67,7 +68,7 @@ module _ (p : Problem) where
       rw (rows-are p)
       (late-number (eqb (crossingCount p) 0) (anyVoid p) (ltb mostEntries (crossingCount p)) (allFinite p) (λ z. h (rows-are p ∙ z)))
 
-  -- each entry names an end
+  -- The chosen end of each entry is 0 or 1.
   each-names : (rs : List Bracket) (e : Entry) → List·Memᴰ e (map (entryFor p) rs) → e .chosen ≤ 1
   each-names [] e m = absurd (in-none m)
   each-names (r ∷ rs) e m = ⊎-elim (λ here. rw here (entry-names p r)) (λ there. each-names rs e there) (in-first m)
@@ -76,14 +77,14 @@ module _ (p : Problem) where
   unfolding entriesOf
   all-name = each-names (bracketsOf p)
 
--- ---- past number 1
+-- ---- questions to which number 1 does not apply
 
 or-true : (a : Bool) → a || true ≡ true
 or-true true = refl
 or-true false = refl
 
 module _ (s : List ℕ) where
-  -- job 0 is malformed, so that a question past number 1 has another
+  -- Number 1 applies to job 0, so any question to which it does not apply has another job.
   zero-malformed : jobOf s ≡ 0 → conditionOf s answerRoom 1 ≡ true
   unfolding conditionOf appliesIn checks malformed questionOf
   zero-malformed e = simp (e, or-true)
@@ -97,7 +98,7 @@ module _ (s : List ℕ) where
   unfolding refusalRecord
   refusal-form n low high job = rw (ne-eqb n 1 (λ e. omega (arith, e, low))) (refusal n low high job)
 
-  -- the question's own problem, and the first entrance check that applies
+  -- The question's own problem (`own`), and the number of the first entrance check that applies (`first-check`).
   abbrev own : Problem
   own = let q = questionOf s in problemOf q (shapeOf (q .r1) (q .r2) (longWay q))
 

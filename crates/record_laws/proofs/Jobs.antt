@@ -1,5 +1,6 @@
--- The job and the revision of the record of a question that is bytes (`job-named`): by the three forms of a record, each of which reads
--- back what its head says.
+-- The job and the revision that the record of a question names, for a question that consists of bytes (`job-named`).
+-- The proof splits on the three forms of a record. In each form the head gives back the job and revision written into
+-- it.
 use mathlib.Core.Path.{_≡_, refl, ap, _∙_}
 use mathlib.Core.Logic.{_⊎_, inl, inr}
 use mathlib.Core.List.{List}
@@ -27,7 +28,7 @@ zero-job =
     ap (λ (x : Head). x .job) (refusal-head-read 0 0 firstNumber held)
 
 module _ (s : List ℕ) (bytes : AreBytes s) where
-  -- the question's job and revision are numbers of four bytes
+  -- The job and the revision of the question are numbers of four bytes, so they are below 2^32.
   abbrev job : ℕ
   job = jobOf s
 
@@ -40,13 +41,13 @@ module _ (s : List ℕ) (bytes : AreBytes s) where
   small-revision : revision < 2 ^ 32
   small-revision = number-lt (REVISION .width) (REVISION .offset) s bytes
 
-  -- a record that names the question's own job, which is not 0, and revision
+  -- The record names the question's own job and revision, and this job is not 0.
   record Own (l : List ℕ) : Type 0 where
     pub jobIs : jobOf l ≡ job
     pub revisionIs : revisionOf l ≡ revision
     pub above : 0 < job
 
-  -- one whose head names them
+  -- It is enough that the head of the record names them.
   own-by : (l : List ℕ) (h : Head) → headOf l ≡ h → h .job ≡ job → h .revision ≡ revision → 0 < job → Own l
   unfolding headOf
   own-by l h e f g above =
@@ -66,13 +67,13 @@ module _ (s : List ℕ) (bytes : AreBytes s) where
       let back = answer-head-back job revision es held in
       own-by (answerBytes job revision es) (answerHeadOf job revision (length es)) back refl refl above
 
-  -- a record is number 1's, or names the question's own job and revision
+  -- A record is the refusal with number 1, or it names the question's own job and revision.
   either : {l : List ℕ} → RecordForm s l → (l ≡ notQuestion) ⊎ Own l
   either not-question = inl refl
   either (refusal n low high above) = inr (refusal-own n (omega (arith, high)) above)
   either (answer es low high ends above) = inr (answer-own es high above)
 
-  -- what follows for the two statements
+  -- The two statements of `JobNamed` follow in each of these cases.
   zero-exactly : (l : List ℕ) → (l ≡ notQuestion) ⊎ Own l → Exactly (jobOf l ≡ 0) (l ≡ notQuestion)
   zero-exactly l (inl one) = record { only = λ e. one; always = λ e. ap jobOf e ∙ zero-job }
   zero-exactly l (inr o) = record { only = λ e. absurd (omega (arith, e, o .jobIs, o .above)); always = λ e. ap jobOf e ∙ zero-job }

@@ -1,5 +1,5 @@
--- THE RECORD OF EVERY QUESTION is an outcome in force (`record-outcome`), so that no board refuses it with B1 (`never-malformed`): by the
--- three forms of a record.
+-- The record of every question is a well-formed outcome (`record-outcome`), so posting it is never refused with B1
+-- (`never-malformed`). The proof splits on the three forms of a record.
 use mathlib.Core.Path.{_≡_}
 use mathlib.Core.Bool.{Bool, true, false, cond, not}
 use mathlib.Core.List.{List}
@@ -25,9 +25,10 @@ form-outcome s (answer es low high ends above) = answer-outcome (jobOf s) (revis
 pub record-outcome : (s : List ℕ) → isOutcome (recordOf s) ≡ true
 record-outcome s = form-outcome s (record-form s)
 
--- ---- posted on any bytes, a board or not
+-- ---- posting on any bytes, whether they are a board or not
 
--- the four ways of a call that are not B1: not a board, job 0, no free slot, and taken
+-- A call has four results other than B1: not a board (B0), job 0 (B2), no free slot (B3), and taken. A refusal with
+-- another number is not B1 (`other-number`).
 other-number : {P : Type 0} (n : ℕ) → (n ≡ 1 → ⊥) → Refused n ≡ Refused 1 → P
 other-number n other e = let z : n ≡ 1 = cc e in absurd (other z)
 

@@ -1,5 +1,5 @@
--- Which forms the record of a question takes, and which job and revision it names (01, Records on the wire, Numbers of refusal).
--- Definitions only.
+-- The forms that the record of a question can have, and the job and the revision that it names (01, Records on the
+-- wire, Numbers of refusal). Definitions only.
 use mathlib.Core.Path.{_≡_}
 use mathlib.Core.List.{List, List·Memᴰ}
 use Prim.Native.Nat.{ℕ, _≤_, _<_}
@@ -10,12 +10,13 @@ use Rattle.records.specs.Records.{refusalBytes, answerBytes}
 use Rattle.records.specs.declared.Entry.{Entry}
 use Rattle.entrance.specs.Table.{Exactly}
 
--- the refusal of number 1: the bytes are not a question, and it names no job
+-- The refusal with number 1: the bytes are not a well-formed question, and the record names job 0 and revision 0.
 abbrev pub notQuestion : List ℕ
 notQuestion = refusalBytes 0 0 firstNumber
 
--- the bytes that a question can get: number 1; a later number with the question's own job and revision; or an answer with them, of one to
--- eight entries that each name an end. A question that gets past number 1 has a job other than 0
+-- The records that a question can get: the refusal with number 1, a refusal with a later number, or an answer with one
+-- to eight entries whose chosen ends are 0 or 1. The last two name the question's own job and revision, and this job is
+-- not 0.
 pub data RecordForm (s : List ℕ) : List ℕ → Type 0 where
   not-question : RecordForm s notQuestion
   refusal : (n : ℕ) → firstNumber < n → n ≤ lastNumber → 0 < jobOf s →
@@ -23,10 +24,10 @@ pub data RecordForm (s : List ℕ) : List ℕ → Type 0 where
   answer : (es : List Entry) → 1 ≤ length es → length es ≤ mostEntries → ((e : Entry) → List·Memᴰ e es → e .chosen ≤ 1) →
       0 < jobOf s → RecordForm s (answerBytes (jobOf s) (revisionOf s) es)
 
--- the job and the revision that the record of a question names
+-- The job and the revision that the record of a question names.
 pub record JobNamed (s : List ℕ) : Type 0 where
-  -- job 0 exactly where it is the refusal of number 1
+  -- The job is 0 exactly if the record is the refusal with number 1.
   pub zeroExactly : Exactly (jobOf (recordOf s) ≡ 0) (recordOf s ≡ notQuestion)
-  -- any other record has the question's own, be it a refusal or an answer
+  -- Any other record, a refusal or an answer, names the question's own job and revision.
   pub own : (recordOf s ≡ notQuestion → ⊥) →
       (jobOf (recordOf s) ≡ jobOf s) × (revisionOf (recordOf s) ≡ revisionOf s)
