@@ -1,4 +1,6 @@
--- What stands at a place, by the facts that the definition tests; and a record's rest fits the room for one (`rest-short`).
+-- What `startOf` gives, by the facts that it tests: the end of the input (`ended`), a length field that is cut short
+-- (`cut-short`), a length that is too large (`too-long`), or a record (`followed`). The rest of a record after its
+-- length field is never longer than that of the longest record (`rest-short`).
 use mathlib.Core.Path.{_≡_, refl}
 use mathlib.Core.Bool.{Bool, true, false, cond}
 use mathlib.Core.List.{List}
@@ -31,7 +33,7 @@ module _ (head : List ℕ) where
       followed h =
           rw (ne-eqb (length head) 0 some, le-ltb (length head) (LENGTH .width) long, le-ltb longestRest (valueOf LENGTH head) h)
 
--- ---- a rest is no longer than the longest
+-- ---- the bound on the rest of a record
 
 same-rest : {m n : ℕ} → Record m ≡ Record n → m ≡ n
 same-rest e = cc e

@@ -1,6 +1,8 @@
--- The records of an input, said without their count: none of an empty one (`no-records`), and a record that is as long as its
--- length says comes before those of what follows it (`record-first`). And the steps make the whole: by what stands first, the
--- board so far is written, or nothing, or the record is posted and the rest of the input follows (`board-by-steps`).
+-- The stream of an input, without the counter of `streamIn`. An empty input has no records (`no-records`). A record
+-- that is as long as its length field says is the first of the stream, and the records of the remaining input follow it
+-- (`record-first`). `boardAfter` can be computed one record at a time (`board-by-steps`): depending on what comes first
+-- in the input, the board so far is written, or nothing is written, or the record is posted and the remaining input
+-- follows.
 use mathlib.Core.Path.{_≡_, refl, sym, ap, _∙_}
 use mathlib.Core.Bool.{true}
 use mathlib.Core.List.{List, [], _∷_, _++_}
@@ -16,14 +18,14 @@ use Rattle.record_stream.specs.declared.Start.the-variants.{End, Record,
 use Rattle.record_stream.proofs.Starts.{followed}
 use Rattle.record_stream.specs.Streams.{startOf, startIn, Stream, followedBy, streamFrom, streamIn, streamOf, boardAfter, boardStep}
 
--- ---- as many records as bytes are all
+-- ---- a counter of at least the input's length
 
 no-more : (n : ℕ) → streamIn n [] ≡ record { records = []; whole = true }
 unfolding streamIn startOf
 no-more zero = refl
 no-more (suc n) = refl
 
--- the stream from a place on depends on later places alone
+-- Two functions for the remaining input that agree on all shorter inputs give the same stream of an input.
 later-same : (start : Start) (b : ℕ) (bs : List ℕ) (f g : List ℕ → Stream) →
     ((input : List ℕ) → length input ≤ length bs → f input ≡ g input) → streamFrom start (b ∷ bs) f ≡ streamFrom start (b ∷ bs) g
 later-same End b bs f g h = refl
@@ -50,7 +52,7 @@ pub no-records : streamOf [] ≡ record { records = []; whole = true }
 unfolding streamOf
 no-records = no-more 0
 
--- the stream of an input, by what stands first in it
+-- The stream of an input, by what comes first in it.
 pub by-first : (input : List ℕ) → streamOf input ≡ streamFrom (startIn input) input streamOf
 unfolding streamOf streamIn startOf
 by-first [] = refl
@@ -77,7 +79,7 @@ record-first message rest sized fits =
         let behind : drop size (message ++ rest) ≡ rest = rw (sym sized) (drop-append-seam message rest) in
         rw (front, behind)
 
--- ---- the steps make the whole
+-- ---- the board, one record at a time
 
 by-start : (start : Start) (board input : List ℕ) → streamOf input ≡ streamFrom start input streamOf →
     boardAfter board input ≡ boardStep start board input

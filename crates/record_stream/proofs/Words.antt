@@ -1,4 +1,5 @@
--- Words at the start of a buffer: what stands there once they are put (`put-facts`), and the same of words that are equal (`same-words`).
+-- A text at the start of a buffer: what holds after it is put there (`put-facts`), and the same for an equal text
+-- (`same-words`).
 use mathlib.Core.Path.{_≡_, refl, sym, ap, _∙_}
 use mathlib.Core.List.{List}
 use Prim.Native.Nat.{ℕ, _-_, _≤_}
@@ -10,7 +11,7 @@ use Rattle.slots.specs.Slots.{padded}
 use Rattle.slots.proofs.Padding.{padded-is, padded-length}
 use Rattle.record_stream.specs.Reasons.{reasonRoom}
 
--- what the contracts say of the words, the length that is returned and the buffer
+-- What the contracts in `reasons.rt` say about the text, the returned size and the buffer.
 abbrev pub Stand : List ℕ → ℕ → List ℕ → Type 0
 Stand words size buffer = (size ≡ length words) × ((buffer ≡ padded reasonRoom words) × (Counts size buffer × (take size buffer ≡ words)))
 

@@ -1,4 +1,4 @@
--- Why a record is refused, in words, as bytes. Definitions only.
+-- The reasons for a refusal as texts in bytes. Definitions only.
 use Prim.Native.Nat.{ℕ}
 use Prim.Native.Char.{code}
 use Prim.Native.String.{String, [] as end, _∷_ as _then_}
@@ -6,12 +6,12 @@ use mathlib.Core.Bool.{cond}
 use mathlib.Core.List.{List, [], _∷_}
 use lib.Dec.{eqb}
 
--- the bytes of a text in ASCII
+-- The bytes of an ASCII text.
 unfoldable pub textBytes : String → List ℕ
 textBytes end = []
 textBytes (c then text) = code c ∷ textBytes text
 
--- B0 to B3, by their numbers; no words for any other
+-- The text for each refusal, B0 to B3, given by its number. Any other number has an empty text.
 unfoldable pub reasonOf : ℕ → List ℕ
 reasonOf number =
     cond (eqb number 0) (textBytes "B0: the board is not one")
@@ -19,10 +19,10 @@ reasonOf number =
     (cond (eqb number 2) (textBytes "B2: its job is 0")
     (cond (eqb number 3) (textBytes "B3: no slot is free for a new job") [])))
 
--- a length above that of the longest record
+-- The text for a length above that of the longest record.
 unfoldable pub lengthReason : List ℕ
 lengthReason = textBytes "B1: no record has its length, so nothing tells where the next starts, and no board is written"
 
--- room for the longest of these
+-- The number of bytes of the longest of these texts.
 abbrev pub reasonRoom : ℕ
 reasonRoom = 93

@@ -1,4 +1,5 @@
-// Records that come one after another: where each ends, by its own length, and why one is refused, in words.
+// Records one after another in an input: finds the end of each by its length field, and says in words why a record is
+// refused.
 ghost use mathlib.Core.Path.{_≡_};
 ghost use Rattle.record_stream.specs.Streams.{startOf};
 
@@ -11,18 +12,21 @@ use records::ANSWER_ROOM;
 use records::LENGTH_SIZE;
 use records::length_of;
 
-// The most bytes that follow the length of a record.
+// The largest number of bytes that follow the length field of a record.
 const LONGEST_REST: usize = ANSWER_ROOM - LENGTH_SIZE;
 
-// What stands at a place of the input: its end; a record, and how many bytes of it follow those that were looked at; or a
-// length above that of the longest record, so that nothing tells where the next one starts.
+// What comes next in the input.
+// - `End`: the end of the input.
+// - `Record`: a record, with the number of its bytes that follow those already read.
+// - `NoRecord`: a length above that of the longest record, so nothing tells where the next record starts.
 pub enum Start {
     End,
     Record(usize),
     NoRecord,
 }
 
-// What stands where some bytes were read: as many as a length has, or fewer at the input's end.
+// Returns what comes next in the input. The caller passes the next bytes: as many as a length field has, or fewer at
+// the end of the input.
 pub fn start_of(head: &[u8]) -> Start
     ensures { λ r. ⌜ r ≡ startOf (now (head .entry)) ⌝ }
 {

@@ -1,4 +1,4 @@
-// Why a record is refused, in words.
+// Says in words why a record is refused.
 ghost use mathlib.Core.Path.{_≡_};
 ghost use Prim.Native.Nat.{_≤_};
 ghost use lib.ListN.{length, take};
@@ -6,11 +6,11 @@ ghost use Rattle.io.specs.Counts.{Counts};
 ghost use Rattle.slots.specs.Slots.{padded};
 ghost use Rattle.record_stream.specs.Reasons.{reasonOf, lengthReason, reasonRoom};
 
-// Room for the longest reason.
+// The size of the longest reason in bytes.
 pub const REASON_ROOM: usize = 93;
 
-// Puts the reason of a refusal, B0 to B3 by its number, into a buffer, with zeros after it, and returns its size. Any
-// other number has none.
+// Writes the reason for a refusal, B0 to B3 given by its number, to the start of a buffer, with zeros after it, and
+// returns the size of the text. Any other number has an empty text.
 pub fn reason_of(number: u8, out: &mut [u8; REASON_ROOM]) -> usize
     ensures size { λ r. ⌜ r ≡ length (reasonOf number) ⌝ }
     ensures buffer { λ _. ⌜ now (out .exit) ≡ padded reasonRoom (reasonOf number) ⌝ }
@@ -26,7 +26,7 @@ pub fn reason_of(number: u8, out: &mut [u8; REASON_ROOM]) -> usize
     }
 }
 
-// The same for a length above that of the longest record.
+// Writes the reason for refusing a length above that of the longest record, in the same way.
 pub fn length_reason(out: &mut [u8; REASON_ROOM]) -> usize
     ensures size { λ r. ⌜ r ≡ length lengthReason ⌝ }
     ensures buffer { λ _. ⌜ now (out .exit) ≡ padded reasonRoom lengthReason ⌝ }

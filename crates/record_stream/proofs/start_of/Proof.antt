@@ -1,4 +1,4 @@
--- `start_of` meets its contract: each of its tests is the definition's.
+-- `start_of` meets its contract. Its tests are those of `startOf`.
 use borrow.Author.Needs.{needs}
 use mathlib.Core.Path.{_≡_, ap, _∙_}
 use Prim.Native.Nat.{_≤_, _<_}

@@ -1,4 +1,4 @@
--- `length_reason` meets its contract: its words are the definition's.
+-- `length_reason` meets its contract. Its text is that of the definition.
 use borrow.Author.Needs.{needs}
 use mathlib.Core.Path.{refl}
 use Rattle.record_stream.specs.Reasons.{textBytes, lengthReason}

@@ -1,4 +1,4 @@
--- `put` meets its contract: the words stand first, and zeros follow.
+-- `put` meets its contract. The text is at the start of the buffer, and zeros follow it.
 use borrow.Author.Needs.{needs}
 use mathlib.Core.Path.{_≡_, ap, _∙_}
 use Prim.Native.Nat.{ℕ}

@@ -1,4 +1,4 @@
--- `reason_of` meets its contract: the words for each number are the definition's.
+-- `reason_of` meets its contract. The text for each number is that of the definition.
 use borrow.Author.Needs.{needs}
 use borrow.Author.Tests.{ne-eqb}
 use mathlib.Core.Path.{_≡_, sym, ap}
@@ -10,7 +10,7 @@ use Rattle.record_stream.proofs.Words.{same-words}
 use Rattle.record_stream.proofs.reasons.reason_of.Statement.{statement}
 use Rattle.record_stream.proofs.reasons.reason_of.Tie as tie
 
--- any other number has no words
+-- Any other number has an empty text.
 other : (n : ℕ) → (n ≡ 0 → ⊥) → (n ≡ 1 → ⊥) → (n ≡ 2 → ⊥) → (n ≡ 3 → ⊥) → [] ≡ reasonOf n
 unfolding reasonOf
 other n not-0 not-1 not-2 not-3 = rw (ne-eqb n 0 not-0, ne-eqb n 1 not-1, ne-eqb n 2 not-2, ne-eqb n 3 not-3)
