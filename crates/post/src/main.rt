@@ -1,6 +1,7 @@
-// Reads records from standard input, one after another, posts each on a board of zeros, and writes the board to standard
-// output. A record that is refused is told on standard error. Where a read or a write fails, or a length is one that no
-// record has, a message is written there too, and no board.
+// Reads records from standard input, one after another, posts each on a board that starts as all zeros, and writes the
+// board to standard output. If a record is refused, `post` prints the reason to standard error and goes on. If a read
+// fails, or a length is above that of the longest record, `post` prints a message to standard error and stops without
+// writing a board. If a write fails, it prints a message to standard error too.
 ghost use mathlib.Core.Path.{_≡_};
 ghost use Prim.Native.Nat.{_≤_};
 ghost use lib.ListN.{length, take};
@@ -19,7 +20,8 @@ use records::LENGTH_SIZE;
 use standard_input::Got;
 use std::num::wrapping_add_u64;
 
-// Where the next record starts, that there is none, or that the rest cannot be read.
+// What comes next: a record at the given byte offset of the input, the end of the input, or a failure. After a failure
+// the rest of the input is not read.
 enum Next {
     At(u64),
     End,
@@ -33,8 +35,8 @@ fn main() {
     }
 }
 
-// Posts every record, and answers whether the input was read to its end. A proved loop has to end, and nothing says that
-// the input does: the count is one that no input reaches.
+// Posts every record and reports whether the input was read to its end. The prover requires a bound on the loop. The
+// input has none, so the bound is a count that no input reaches.
 fn post_all(board: &mut [u8]) -> bool
     ensures { λ _. ⌜ Postings (now (board .entry)) (now (board .exit)) ⌝ }
 {
@@ -58,7 +60,7 @@ fn post_all(board: &mut [u8]) -> bool
     false
 }
 
-// Posts the record at a place of the input, read into a buffer: the length that it begins with, and then the rest.
+// Posts the record at byte offset `place` of the input. Reads it into `bytes`: first its length field, then the rest.
 fn post_next(board: &mut [u8], bytes: &mut [u8], place: u64) -> Next
     requires { ⌜ length (now bytes) ≡ answerRoom ⌝ }
     ensures { λ r. ⌜ AfterNext place (now (board .entry)) (now (bytes .exit)) (now (board .exit)) r ⌝ }
@@ -69,7 +71,8 @@ fn post_next(board: &mut [u8], bytes: &mut [u8], place: u64) -> Next
     }
 }
 
-// Posts the record of which the first n bytes are there, as many as a length has, or fewer at the input's end.
+// Posts the record whose first n bytes are in the buffer. These are as many as a length field has, or fewer at the end
+// of the input. Posts nothing if n is 0 or if the length is above that of the longest record.
 fn post_after(board: &mut [u8], bytes: &mut [u8], n: usize, place: u64) -> Next
     requires room { ⌜ length (now bytes) ≡ answerRoom ⌝ }
     requires head { ⌜ n ≤ LENGTH .width ⌝ }
@@ -86,7 +89,8 @@ fn post_after(board: &mut [u8], bytes: &mut [u8], n: usize, place: u64) -> Next
     }
 }
 
-// Reads the rest of a record, of which n bytes are there, and posts it. One that the input's end cuts short is malformed.
+// Reads the rest of a record, of which n bytes are in the buffer, and posts it. If the input ends within the record,
+// the record is malformed.
 fn post_rest(board: &mut [u8], bytes: &mut [u8], n: usize, rest: usize, place: u64) -> Next
     requires room { ⌜ length (now bytes) ≡ answerRoom ⌝ }
     requires head { ⌜ n ≤ LENGTH .width ⌝ }
@@ -131,7 +135,7 @@ fn tell_length(place: u64) {
     say(place, &words[..size]);
 }
 
-// Says that the record at a place was refused, and why.
+// Prints to standard error that the record at byte offset `place` was refused, and why.
 fn say(place: u64, why: &[u8]) {
     io::write_all(STDERR_FILENO, b"post: the record at byte ");
     io::print_decimal(STDERR_FILENO, place);

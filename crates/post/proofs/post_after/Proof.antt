@@ -1,5 +1,6 @@
--- `post_after` is safe: the bytes that are looked at lie within the buffer, and a record's rest fits it. It meets its contract by
--- what stands at the place, and `post_rest` keeps the bytes that tell this.
+-- `post_after` is safe: the bytes that it passes to `start_of` are within the buffer, and the rest of a record fits in
+-- it. It meets its contract. The proof splits on what comes next in the input; `post_rest` does not change the bytes
+-- that determine this.
 use mathlib.Core.Path.{refl, sym, ap, _∙_}
 use native.Mathlib.Omega.{arith}
 use borrow.Author.Needs.{needs}

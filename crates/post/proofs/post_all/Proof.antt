@@ -1,5 +1,6 @@
--- `post_all` ends, and the board comes of posting records alone. The loop's invariant: the buffer keeps its size, and the board comes
--- of the first one by the records posted so far. The measure is how many rounds are left.
+-- `post_all` ends, and it changes the board only by posting records. The loop invariant: the board and the buffer keep
+-- their sizes, and the board is the first one with the records so far posted on it. The measure is the number of rounds
+-- left.
 use mathlib.Core.Path.{_≡_, refl, sym, ap, subst, _∙_}
 use mathlib.Core.List.{List, [], _∷_, _++_}
 use Prim.Native.Nat.{ℕ}
@@ -17,7 +18,7 @@ use Rattle.post.specs.Posting.{AfterRest, AfterStart, AfterNext, unread,
 use Rattle.post.proofs.post_all.Statement.{statement}
 use Rattle.post.proofs.post_all.Tie as tie
 
--- ---- one record more
+-- ---- one more record
 
 post-last : (board : List ℕ) (ms : List (List ℕ)) (m : List ℕ) → postAll board (ms ++ (m ∷ [])) ≡ postOf (postAll board ms) m .board
 unfolding postAll
@@ -65,7 +66,7 @@ none-yet board = record { records = []; posts = refl }
 loop-holds : tie.Need-loop-holds Inv-loop μ-loop
 loop-holds c = (refl, refl, none-yet (c .before .args .board .now))
 
--- the board after a round
+-- The board after a round.
 after-round : (c : tie.After-post-next Inv-loop μ-loop) →
     Postings (c .before .before .before .before .before .before .args .board .now) (c .post-next .last .0)
 after-round c =

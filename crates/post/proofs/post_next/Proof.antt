@@ -1,5 +1,5 @@
--- `post_next` is safe: the buffer keeps its size, and no more bytes are read than a length has. It meets its contract by
--- `post_after`'s, or by a read that failed.
+-- `post_next` is safe: the buffer keeps its size, and at most as many bytes are read as a length field has. It meets
+-- its contract, which follows from that of `post_after`, or from the failed read.
 use mathlib.Core.Path.{refl, sym, subst, _∙_}
 use Prim.Native.Nat.{_≤_}
 use native.Mathlib.Omega.{arith}
@@ -17,7 +17,7 @@ slice-aggregate-fill c =
     let start = c .before .before .before in
     sym (length-take-le (LENGTH .width) (start .args .bytes .now) (omega (arith, start .pre)))
 
--- no more bytes came than a length has
+-- At most as many bytes were read as a length field has.
 in-head : (c : tie.After-n) → c .n .given .0 .0 ≤ LENGTH .width
 in-head c =
     let f = c .before .before .before .before in

@@ -1,5 +1,6 @@
--- `post_rest` is safe: what was read lies within the part that was lent, and so within the record's buffer. It meets its contract:
--- the bytes before that part stay, and the record's bytes are the ones that are posted.
+-- `post_rest` is safe: the bytes that were read are within the slice that it lends, and so within the record's buffer.
+-- It meets its contract: the bytes before that slice stay the same, and the bytes that it posts are those of the
+-- record.
 use mathlib.Core.Path.{_≡_, refl, sym, subst, _∙_}
 use Prim.Native.Nat.{_+_, _-_, _≤_}
 use native.Mathlib.Omega.{arith}
@@ -12,7 +13,7 @@ use Rattle.standard_input.specs.Got.{Within}
 use Rattle.post.proofs.post_rest.Statement.{statement}
 use Rattle.post.proofs.post_rest.Tie as tie
 
--- what was read lies within the part, and the buffer keeps its size
+-- The bytes that were read are within the lent slice (`in-part`), and the buffer keeps its size (`whole`).
 in-part : (c : tie.After-more) → c .more .given .0 .0 ≤ c .before .before .before .before .before .before .before .before .args .rest
 in-part c =
     let f = c .before .before .before .before in
@@ -30,7 +31,7 @@ whole c =
     let a = start .args in
     same-len-mid (a .n) (a .n + a .rest - a .n) (a .bytes .now) (c .fill .last .0) (c .fill .kept .0) ∙ start .pre .0
 
--- the bytes of the record lie within the buffer
+-- The bytes of the record are within the buffer.
 in-buffer : (c : tie.After-more) →
     let f = c .before .before .before .before in
     let a = f .before .before .before .before .args in
@@ -52,7 +53,7 @@ slice-aggregate-post c =
     let all = putMid (a .n) (a .n + a .rest - a .n) (a .bytes .now) (f .fill .last .0) in
     sym (length-take-le _ all (omega (arith, in-buffer (c .before .before .before))))
 
--- the bytes that were there stay
+-- The first n bytes, which were read before, stay the same.
 kept : (c : tie.After-fill) →
     let a = c .before .before .before .before .args in
     take (a .n) (putMid (a .n) (a .n + a .rest - a .n) (a .bytes .now) (c .fill .last .0)) ≡ take (a .n) (a .bytes .now)
