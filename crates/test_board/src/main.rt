@@ -1,7 +1,9 @@
-// Posts the records of the independent program and writes what came of each. Commands are read from standard input, each a
-// u16: up to 1,024 a record of so many bytes to post on the first bytes of a buffer; FFFE a place (u32) and a byte to put
-// there; FFFD how many bytes of the buffer are lent as the board (u32); FFFF the end of a list: the hash of the board is
-// written, and the next list starts with a board of zeros.
+// Posts records made by the independent program and writes the result of each. The program reads commands from standard
+// input. Each command begins with a u16:
+// - n up to 1,024: a record of n bytes follows, which is posted on the lent part of a buffer.
+// - FFFE: an index (u32) and a byte follow; the byte is stored at that index of the buffer.
+// - FFFD: a number (u32) follows; this many bytes at the start of the buffer are lent as the board from now on.
+// - FFFF: the list of commands ends. The hash of the board is written, and the next list starts with a board of zeros.
 ghost use Prim.Native.Nat.{_≤_};
 use board::BOARD_SIZE;
 use board::Posted;
@@ -12,10 +14,11 @@ use little_endian::u16_at;
 use little_endian::u32_at;
 use std::num::wrapping_add_u64;
 
-// The buffer: a board and one slot more.
+// The size of the buffer: a board and one more slot.
 const ROOM: usize = BOARD_SIZE + BOARD_SIZE / SLOTS;
 
-// What to do next: go on with so many bytes lent as the board, with a board of zeros, or stop.
+// What to do next: continue with the given number of bytes lent as the board, start again with a board of zeros, or
+// stop.
 enum Next {
     Lend(usize),
     Clear,
@@ -29,7 +32,7 @@ fn main() {
     }
 }
 
-// One list of commands, on a board of zeros; answers whether another may follow.
+// Runs one list of commands, which starts with a board of zeros. Reports whether another list may follow.
 fn run_list() -> bool {
     let mut room = [0u8; ROOM];
     let mut size: usize = BOARD_SIZE;
@@ -72,7 +75,7 @@ fn run_command(room: &mut [u8], size: usize) -> Next {
     Next::Lend(size)
 }
 
-// The number of bytes to lend, cut at the buffer's.
+// Reads the number of bytes to lend. It is at most the size of the buffer.
 fn lent_size() -> usize {
     let mut bytes = [0u8; 4];
     io::read_full(STDIN_FILENO, &mut bytes);
@@ -119,7 +122,7 @@ fn print_posted(posted: Posted) {
     }
 }
 
-// FNV-1a over the bytes that are lent.
+// Prints the FNV-1a hash of the lent bytes.
 fn print_hash(room: &[u8], size: usize) {
     let lent = at_most(size, room.len());
     io::write_all(STDOUT_FILENO, b" ");
@@ -137,7 +140,8 @@ fn hash_of(s: &[u8]) -> u64 {
     hash
 }
 
-// The product with 2^40 + 435, the prime of FNV-1a, modulo 2^64: no product of u64s here may wrap.
+// Returns the product of x and 2^40 + 435, the prime of FNV-1a, modulo 2^64. It is computed in parts, because a product
+// of u64s must not overflow here.
 fn times_prime(x: u64) -> u64 {
     let low = x % 0x1_0000_0000 * 435;
     let high = x / 0x1_0000_0000 * 435 % 0x1_0000_0000 * 0x1_0000_0000;

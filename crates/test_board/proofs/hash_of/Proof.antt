@@ -1,4 +1,5 @@
--- `hash_of` is safe and ends: the measure is how many bytes are left.
+-- `hash_of` is safe and ends. The loop invariant: i is at most the number of bytes. The measure is the number of bytes
+-- left.
 use Prim.Native.Nat.{_-_, _≤_}
 use native.Mathlib.Omega.{arith}
 use lib.ListN.{length}

@@ -1,4 +1,4 @@
--- `main` is safe and ends: nothing has to hold from round to round, and the measure is how many rounds are left.
+-- `main` is safe and ends. The loop needs no invariant. The measure is the number of rounds left.
 use borrow.Author.Needs.{needs}
 use Rattle.test_board.proofs.main.Statement.{statement}
 use Rattle.test_board.proofs.main.Tie as tie

@@ -1,4 +1,4 @@
--- `print_hash` is safe: what is lent lies within the buffer.
+-- `print_hash` is safe: the slice that it passes to `hash_of` is within the buffer.
 use mathlib.Core.Path.{sym}
 use native.Mathlib.Omega.{arith}
 use borrow.Author.Needs.{needs}

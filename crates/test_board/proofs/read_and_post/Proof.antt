@@ -1,4 +1,4 @@
--- `read_and_post` is safe: the parts that are lent lie within the buffers.
+-- `read_and_post` is safe: the slices that it lends are within their buffers.
 use mathlib.Core.Path.{sym}
 use mathlib.Core.List.{_++_}
 use native.Mathlib.Omega.{arith}

@@ -1,4 +1,4 @@
--- `run_list` ends: the measure is how many rounds are left.
+-- `run_list` ends. The loop invariant: the buffer keeps its size. The measure is the number of rounds left.
 use mathlib.Core.Path.{_≡_}
 use Prim.Native.Nat.{_+_, _/_}
 use borrow.Author.Needs.{needs}
