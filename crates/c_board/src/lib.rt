@@ -1,11 +1,11 @@
-// The C interface to the board, for hosts in other languages. A slice is a pointer and a length; the memory of a board and of a record
-// must not overlap.
+// The C interface to the board, for callers in other languages. A slice is a pointer and a length. The memory of a
+// board and that of a record must not overlap.
 ghost use mathlib.Core.Path.{_≡_};
 ghost use Rattle.board.specs.Board.{postedNumber, postOf};
 use board::Posted;
 use board::post;
 
-// `post`, with the number of a refusal, 0 to 3, and 255 for a record that was taken.
+// Posts a record as `post` does. Returns the number of the refusal, 0 to 3, or 255 if the record was taken.
 #[no_mangle]
 pub extern "C" fn lambert_post(board: &mut [u8], message: &[u8]) -> u8
     ensures result { λ r. ⌜ r ≡ postedNumber (postOf (now (board .entry)) (now (message .entry)) .posted) ⌝ }

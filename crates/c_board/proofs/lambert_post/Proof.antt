@@ -1,4 +1,4 @@
--- `lambert_post` meets its contract: what `post` returns, as one number.
+-- `lambert_post` meets its contract. It returns the result of `post` as one number.
 use mathlib.Core.Path.{sym, ap, _∙_}
 use borrow.Author.Needs.{needs}
 use Rattle.board.specs.Board.{postedNumber}
