@@ -42,7 +42,8 @@ pub fn time() -> io::Result<()> {
     for (sort, what) in SORTS {
         let programs: [questions::Program; 3] = [(LAMBERT, &[]), (PROVED, &[]), (REFERENCE, &["solve"])];
         let seconds = questions::seconds(&questions::ask(sort, folder)?, &programs, folder)?;
-        let records = if questions::same(folder, 0, 1)? { "every record equal" } else { "some records differ" };
+        let records =
+            if questions::same(folder, 0, 1)? { "every record equal" } else { "some records differ" };
         println!("questions {what}, {COUNT} of them, {records}, the best of {} rounds:", questions::ROUNDS);
         show(("ms", "reference"), seconds.map(|s| 1e3 * s / COUNT as f64));
     }

@@ -98,9 +98,13 @@ fn timed_places() -> Vec<Place> {
 fn time_places(root: f64) {
     let timed = timed_places();
     let roots = timed.iter().map(|p| 4 + u64::from(p.m > 0)).sum::<u64>() as f64 / timed.len() as f64;
-    let times = timing::nanoseconds(&timed, [&|p: Place| proved::time_bits(p.lambda, p.k, p.m), &reference_bits]);
+    let times =
+        timing::nanoseconds(&timed, [&|p: Place| proved::time_bits(p.lambda, p.k, p.m), &reference_bits]);
     report("time at a place", timed.len(), times, ("ns", "reference"));
-    println!("  the roots  {:8.0} % of the proved time ({roots:.1} a place)", 100.0 * roots * root / times[0]);
+    println!(
+        "  the roots  {:8.0} % of the proved time ({roots:.1} a place)",
+        100.0 * roots * root / times[0]
+    );
 }
 
 /// Half of the operands are positive, so that half of the answers are numbers at the least.

@@ -19,7 +19,8 @@ pub type Program = (&'static str, &'static [&'static str]);
 pub const TODAY: [Program; 2] = [(PROVED, &[]), (REFERENCE, &["solve"])];
 
 /// What the reference calls a sort of questions, and what it is.
-pub const SORTS: [(&str, &str); 2] = [("random", "of every sort, some damaged"), ("missions", "as missions ask them")];
+pub const SORTS: [(&str, &str); 2] =
+    [("random", "of every sort, some damaged"), ("missions", "as missions ask them")];
 
 /// Runs both programs over each sort. Fails where one of them does, or where a byte of theirs differs.
 pub fn time() -> io::Result<()> {

@@ -67,7 +67,7 @@ fn faulty(r: &mut Random) -> Vec<List> {
         all.push([&sound[..], &malformed::faults(&base, r), &[malformed::nobody(&base)]].concat());
     }
     let whole = answer(5, 5, 8, r);
-    let telling = |size: &usize| *size < 24 || (14..18).contains(&(size % 64)) || size % 41 == 0;
+    let telling = |size: &usize| *size < 24 || (14..18).contains(&(size % 64)) || size.is_multiple_of(41);
     let sizes: Vec<usize> = (0..600).filter(telling).chain([LONGEST - 1, LONGEST]).collect();
     for sized in [malformed::resized, malformed::agreed] {
         let cut = sizes.iter().map(|&size| sized(&whole, size, r));

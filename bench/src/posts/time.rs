@@ -38,7 +38,10 @@ fn report(what: &str, count: usize, [ours, theirs]: [f64; 2], restoring: f64) {
     println!("a post of {what}, {count} records, the best of {} rounds:", timing::ROUNDS);
     println!("  proved     {:8.0} a second", 1e9 / ours);
     println!("  reference  {:8.0} a second", 1e9 / theirs);
-    println!("  ratio      {:8.2}, without the {restoring:.0} ns that restoring the board takes", ours / theirs);
+    println!(
+        "  ratio      {:8.2}, without the {restoring:.0} ns that restoring the board takes",
+        ours / theirs
+    );
 }
 
 /// Full boards have the even jobs from 2 on, so that others have their places between them.

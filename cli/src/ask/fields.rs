@@ -4,7 +4,7 @@
 /// body's own, without its moons.
 pub const BODIES: [(&str, f64, &str); 4] = [
     ("earth", 398_600.441_8, "WGS 84, as in GeographicLib 2.1.2"),
-    ("moon", 4_902.800_066_163_796_1, HORIZONS),
+    ("moon", 4_902.800_066_163_796, HORIZONS),
     ("mars", 42_828.373_620_699_09, HORIZONS),
     ("sun", 132_712_440_041.939_38, HORIZONS),
 ];

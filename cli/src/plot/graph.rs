@@ -70,7 +70,7 @@ fn places(axes: &Axes) -> String {
 /// the wanted time and away from the curve. No bracket is wide enough to be seen; its ends are among its words.
 fn bracket(i: usize, (x, time): Place, wanted: f64, axes: &Axes, words: &str) -> String {
     let (across, down) = (axes.across(x), axes.down(time.unwrap_or(wanted)));
-    let left = i % 2 == 0 && across > LEFT + 20.0;
+    let left = i.is_multiple_of(2) && across > LEFT + 20.0;
     let (aside, anchor) = if left { (-9.0, "end") } else { (9.0, "start") };
     let style = format!("text-anchor=\"{anchor}\" font-weight=\"bold\" fill=\"{DARK}\" {HALO}");
     let mut drawn = format!("<g class=\"bracket\"><title>{}</title>\n", escaped(words));

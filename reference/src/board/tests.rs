@@ -70,7 +70,7 @@ fn a_higher_revision_replaces_a_lower_one() {
         (answer(4, 0x7FFF_FFFF, 3), answer(4, 0x8000_0000, 1)),
         (refusal(4, 0, 14), answer(4, u32::MAX, 1)),
     ] {
-        assert_eq!(board(&[low.clone(), high.clone()]), slots(&[high.clone()]));
+        assert_eq!(board(&[low.clone(), high.clone()]), slots(std::slice::from_ref(&high)));
         assert_eq!(board(&[high.clone(), low]), slots(&[high]));
     }
 }
@@ -96,7 +96,7 @@ fn different_records_of_a_revision_conflict() {
 #[test]
 fn only_a_higher_revision_clears_a_conflict() {
     let both = [refusal(4, 7, 1), refusal(4, 7, 2)];
-    let then = |record: &Vec<u8>| board(&[&both[..], &[record.clone()]].concat());
+    let then = |record: &Vec<u8>| board(&[&both[..], std::slice::from_ref(record)].concat());
     for ignored in [refusal(4, 7, 1), refusal(4, 7, 2), refusal(4, 7, 3), answer(4, 7, 1), answer(4, 6, 1)] {
         assert_eq!(then(&ignored), slots(&[conflict(4, 7)]));
     }

@@ -108,7 +108,7 @@ fn posted(state: &[u8], jobs: usize, r: &mut Random) -> Vec<u8> {
 }
 
 /// One damage of the first `jobs` slots or of the free ones behind them. Some leave the board sound.
-fn damage(state: &mut Vec<u8>, jobs: usize, r: &mut Random) {
+fn damage(state: &mut [u8], jobs: usize, r: &mut Random) {
     let slot = SLOT * r.below(jobs as u64) as usize;
     let job = u32::from_le_bytes(part(state, slot + JOB));
     let next = SLOT * (slot / SLOT + 1).min(jobs - 1);

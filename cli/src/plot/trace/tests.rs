@@ -42,7 +42,8 @@ fn one_void_station_is_marked_and_breaks_the_path() {
 
 #[test]
 fn a_picture_stays_small() {
-    let wild = |i: usize| Some(if i % 2 == 0 { 1.5e-7 } else { 2.5e9 }).filter(|_| i % 7 != 0);
+    let wild =
+        |i: usize| Some(if i.is_multiple_of(2) { 1.5e-7 } else { 2.5e9 }).filter(|_| !i.is_multiple_of(7));
     let (trace, _) = traced(stations(wild));
     assert!(trace.path.len() + 90 * trace.voids.len() < 60_000, "{}", trace.path.len());
     assert_eq!(traced(stations(|_| None)).0.path, "");

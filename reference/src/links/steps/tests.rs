@@ -19,7 +19,11 @@ fn a_line_of_each_step() {
         Step::End,
     ];
     let asked = words(&q);
-    assert!(asked.starts_with("000700010000004e") && asked.ends_with("0000000000003ff0") && asked.len() == 11 * 16);
+    assert!(
+        asked.starts_with("000700010000004e")
+            && asked.ends_with("0000000000003ff0")
+            && asked.len() == 11 * 16
+    );
     let first = format!("N40N0Q42={asked}N3 K3=000000000000004e\n");
     let second = format!("Q82={asked}R5B0B0 K0=!\n");
     let frames: Vec<u8> = steps.iter().flat_map(Step::frame).collect();
