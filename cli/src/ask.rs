@@ -14,7 +14,7 @@ const FIELDS: [&str; 8] = ["--r1", "--r2", "--mu", "--time", "--way", "--job", "
 pub fn run(words: &[String]) -> Result<u8, Stop> {
     let options = Options::read(words, &[], &[&FIELDS[..], &["--csv", "-o"]].concat())?;
     if let Some(name) = options.files.first() {
-        return Stop::said(format!("what is {name}? A file of questions is named by --csv"));
+        return Stop::said(format!("unexpected argument {name}: a file of questions is given with --csv"));
     }
     let (questions, input) = match options.value("--csv") {
         None => (vec![single(&options)?], None),

@@ -52,11 +52,11 @@ fn read(input: &mut Input) -> Result<Vec<u8>, Stop> {
         return Ok(board);
     }
     let why = match board.len() {
-        BOARD => "its slots are not filled as those of a board are".into(),
+        BOARD => "its slots are not those of a board".into(),
         size if size < BOARD => format!("it has {size} bytes, and a board has {BOARD}"),
         _ => format!("it has more than the {BOARD} bytes of a board"),
     };
-    Stop::said(format!("{name}: B0, no board: {why}"))
+    Stop::said(format!("{name}: B0, not a board: {why}"))
 }
 
 fn status(board: &[u8], tally: &Tally, strict: bool) -> u8 {
@@ -64,8 +64,8 @@ fn status(board: &[u8], tally: &Tally, strict: bool) -> u8 {
     let Tally { records, refused, unread } = *tally;
     let failed = strict && (refused > 0 || conflicts > 0);
     if failed {
-        let s = if conflicts == 1 { " stands" } else { "s stand" };
-        tell(&format!("{refused} of {records} records refused, {conflicts} conflict{s}"));
+        let s = if conflicts == 1 { "" } else { "s" };
+        tell(&format!("{refused} of {records} records refused, {conflicts} conflict{s} on the board"));
     }
     match unread {
         true => 2,

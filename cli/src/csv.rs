@@ -52,7 +52,7 @@ fn next_field(text: &str) -> Result<(String, &str), &'static str> {
         let line = if line.len() < text.len() { line.strip_suffix('\r').unwrap_or(line) } else { line };
         let field = &line[..line.find(',').unwrap_or(line.len())];
         if field.contains('"') {
-            return Err("a quote stands within a field that has no quotes around it");
+            return Err("a quote is inside a field that has no quotes around it");
         }
         return Ok((field.into(), &text[field.len()..]));
     };
@@ -106,7 +106,7 @@ mod tests {
         for (text, at, words) in [
             ("a\n\"b", 2, "a quote is not closed"),
             ("a\nb\n\"c\"d", 3, "text follows a closing quote"),
-            ("a\"b", 1, "a quote stands within a field that has no quotes around it"),
+            ("a\"b", 1, "a quote is inside a field that has no quotes around it"),
         ] {
             assert_eq!(rows(text), Err((at, words.to_string())));
         }

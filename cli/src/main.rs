@@ -50,7 +50,7 @@ fn main() -> ExitCode {
 
 fn words() -> Result<Vec<String>, Stop> {
     let words = std::env::args_os().skip(1).map(|word| word.into_string());
-    words.collect::<Result<_, _>>().or_else(|word| Stop::said(format!("{word:?} is no UTF-8 text")))
+    words.collect::<Result<_, _>>().or_else(|word| Stop::said(format!("{word:?} is not UTF-8 text")))
 }
 
 fn run(words: &[String]) -> Result<u8, Stop> {
@@ -61,7 +61,7 @@ fn run(words: &[String]) -> Result<u8, Stop> {
         return say(help::WHOLE);
     }
     let Some((_, help, command)) = COMMANDS.iter().find(|(name, ..)| name == first) else {
-        return Stop::said(format!("no command {first}; 'lambert-cli --help' lists them"));
+        return Stop::said(format!("unknown command {first}; 'lambert-cli --help' lists them"));
     };
     if rest.iter().any(|word| word == "--help" || word == "-h") {
         return say(help);

@@ -53,7 +53,7 @@ pub fn whole(text: &str, max: u32) -> Result<u32, String> {
 
 pub fn job(text: &str) -> Result<u32, String> {
     match whole(text, u32::MAX)? {
-        0 => Err("is 0, which no question may have".into()),
+        0 => Err("is 0, but job numbers start at 1".into()),
         job => Ok(job),
     }
 }
@@ -81,7 +81,7 @@ pub fn mu(text: &str) -> Result<f64, String> {
     match BODIES.iter().find(|(name, ..)| *name == text.trim()) {
         Some((_, value, _)) => Ok(*value),
         None if text.trim().starts_with(char::is_alphabetic) => {
-            Err(format!("{:?} is no number and none of earth, moon, mars, sun", text.trim()))
+            Err(format!("{:?} is not a number and not one of earth, moon, mars, sun", text.trim()))
         }
         None => real(text),
     }
@@ -94,7 +94,7 @@ pub fn time(text: &str) -> Result<f64, String> {
     let unit = text[number.len()..].trim_start();
     let value = real(if number.is_empty() { text } else { number })?;
     match UNITS.iter().find(|(name, _)| *name == unit || (unit.is_empty() && *name == "s")) {
-        None => Err(format!("{unit:?} is no unit of time: s, min, h or d")),
+        None => Err(format!("{unit:?} is not a unit of time: s, min, h or d")),
         Some((_, seconds)) if (value * seconds).is_infinite() => {
             Err(format!("{text:?} is too large for an f64"))
         }

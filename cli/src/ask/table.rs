@@ -32,9 +32,9 @@ fn columns(header: &Row, mistakes: &mut Mistakes) -> Vec<&'static str> {
     let mut columns = Vec::new();
     for name in header.fields.iter().map(|name| name.trim()) {
         match COLUMNS.iter().find(|column| **column == name) {
-            None => mistakes.list.push(format!("line 1, column {name:?}: is none of a question's")),
+            None => mistakes.list.push(format!("line 1, column {name:?}: is not a column of a question")),
             Some(column) if columns.contains(column) => {
-                mistakes.list.push(format!("line 1, column {name}: stands there twice"));
+                mistakes.list.push(format!("line 1, column {name}: is there twice"));
             }
             Some(column) => columns.push(column),
         }

@@ -71,15 +71,15 @@ impl Choice {
 
     fn several(&self, first: u64, second: u64) -> String {
         match self {
-            Choice::Job(job) => format!("job {job} stands in slots {first} and {second}: choose by --slot"),
-            _ => "has more than one slot: choose by --job or --slot".into(),
+            Choice::Job(job) => format!("job {job} is in slots {first} and {second}: choose with --slot"),
+            _ => "has more than one slot: choose with --job or --slot".into(),
         }
     }
 
     fn missing(&self, slots: u64) -> String {
         match self {
             Choice::Only => "has no question".into(),
-            Choice::Job(job) => format!("none of {slots} slots has a question of job {job}"),
+            Choice::Job(job) => format!("none of the {slots} slots has a question of job {job}"),
             Choice::Slot(number) => format!("there is no slot {number}, the file has {slots}"),
         }
     }

@@ -50,8 +50,8 @@ fn paired(record: &Record, slot: &[u8]) -> Result<Asked, String> {
     let damaged = matches!(record.outcome, Outcome::Refused(1));
     match Question::read(slot) {
         Err(_) if damaged => Ok(Asked::NoQuestion),
-        Err((_, words)) => Err(format!("is no question ({words}), but its record does not say so")),
-        Ok(_) if damaged => Err("is a question, but its record says that it is none".into()),
+        Err((_, words)) => Err(format!("is not a question ({words}), but its record does not say so")),
+        Ok(_) if damaged => Err("is a question, but its record says that it is not".into()),
         Ok(asked) if (asked.job, asked.revision) == (record.job, record.revision) => Ok(Asked::Known(asked)),
         Ok(asked) => Err(format!(
             "is job {}, revision {}, but its record is of job {}, revision {}",

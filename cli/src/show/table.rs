@@ -15,7 +15,7 @@ pub fn record(record: &Record, asked: &Asked) -> String {
     let mut lines = Vec::new();
     match asked {
         Asked::Unknown => {}
-        Asked::NoQuestion => lines.push("asked     the slot is no question".into()),
+        Asked::NoQuestion => lines.push("asked     the slot is not a question".into()),
         Asked::Known(question) => {
             let asked = words::asked(question);
             lines.push(format!("asked     {},", asked[..3].join(", ")));

@@ -30,20 +30,20 @@ impl<R: Read> Frames<R> {
         self.offset += self.size as u64;
         self.number += 1;
         if had < LENGTH {
-            return Ok(Err(self.fault(had, format!("cut: {had} bytes of a length of {LENGTH}"))));
+            return Ok(Err(self.fault(had, format!("cut short: {had} of the {LENGTH} bytes of a length"))));
         }
         let length = u32_at(&bytes, 0) as usize;
         self.size = LENGTH.saturating_add(length);
         if self.size > ROOM {
             let longest = ROOM - LENGTH;
             let words = format!(
-                "length is {length}, but no record is longer than {longest}: nothing behind it is read"
+                "length is {length}, but no record is longer than {longest}: nothing after it is read"
             );
             return Ok(Err(self.fault(0, words)));
         }
         let had = LENGTH + read_full(&mut self.input, &mut bytes[LENGTH..self.size])?;
         if had < self.size {
-            return Ok(Err(self.fault(had, format!("cut: {had} bytes of {}", self.size))));
+            return Ok(Err(self.fault(had, format!("cut short: {had} of {} bytes", self.size))));
         }
         bytes.truncate(self.size);
         Ok(Ok(Some(bytes)))
@@ -83,13 +83,13 @@ mod tests {
     #[test]
     fn a_fault_ends_them_with_its_place() {
         for (tail, offset, words) in [
-            (&[1][..], 6, "cut: 1 bytes of a length of 4"),
-            (&[2, 0, 0, 0, 7], 10, "cut: 5 bytes of 6"),
-            (&[13, 2, 0, 0], 5, "length is 525, but no record is longer than 524: nothing behind it is read"),
+            (&[1][..], 6, "cut short: 1 of the 4 bytes of a length"),
+            (&[2, 0, 0, 0, 7], 10, "cut short: 5 of 6 bytes"),
+            (&[13, 2, 0, 0], 5, "length is 525, but no record is longer than 524: nothing after it is read"),
             (
                 &[255; 9],
                 5,
-                "length is 4294967295, but no record is longer than 524: nothing behind it is read",
+                "length is 4294967295, but no record is longer than 524: nothing after it is read",
             ),
         ] {
             let (found, fault) = all(&[&[1, 0, 0, 0, 9], tail].concat());

@@ -37,7 +37,7 @@ impl Question {
     /// The question in a slot, or the place in the slot that is wrong and why.
     pub fn read(slot: &[u8]) -> Result<Question, (usize, String)> {
         if slot.len() != SLOT {
-            return Err((slot.len(), format!("cut: {} bytes of {SLOT}", slot.len())));
+            return Err((slot.len(), format!("cut short: {} of {SLOT} bytes", slot.len())));
         }
         let fault = |at, words: String| Err((at, words));
         match (u32_at(slot, 0), u16_at(slot, 4), u32_at(slot, 6), slot[16], slot[17]) {
@@ -123,6 +123,6 @@ mod tests {
             slot[at] = value;
             assert_eq!(Question::read(&slot), Err((at, words.to_string())));
         }
-        assert_eq!(Question::read(&sample[..81]), Err((81, "cut: 81 bytes of 82".into())));
+        assert_eq!(Question::read(&sample[..81]), Err((81, "cut short: 81 of 82 bytes".into())));
     }
 }

@@ -102,7 +102,7 @@ impl<R: Read> Records<R> {
         }
         self.number += 1;
         if had < HEAD {
-            return Ok(Err(self.fault((had, format!("cut: {had} bytes of a head of {HEAD}")))));
+            return Ok(Err(self.fault((had, format!("cut short: {had} of the {HEAD} bytes of a head")))));
         }
         let size = match size_of(&bytes[..HEAD]) {
             Ok(size) => size,
@@ -110,7 +110,7 @@ impl<R: Read> Records<R> {
         };
         let had = HEAD + read_full(&mut self.input, &mut bytes[HEAD..size])?;
         if had < size {
-            return Ok(Err(self.fault((had, format!("cut: {had} bytes of {size}")))));
+            return Ok(Err(self.fault((had, format!("cut short: {had} of {size} bytes")))));
         }
         let read = Record::read(&bytes[..size]).map_err(|wrong| self.fault(wrong));
         self.offset += size as u64;

@@ -22,7 +22,7 @@ fn what_is_no_number_is_refused() {
 #[test]
 fn whole_numbers_keep_to_their_width() {
     assert_eq!((job("1"), job("4294967295")), (Ok(1), Ok(u32::MAX)));
-    assert_eq!(job("0"), Err("is 0, which no question may have".into()));
+    assert_eq!(job("0"), Err("is 0, but job numbers start at 1".into()));
     assert_eq!(job("4294967296"), Err("4294967296 is above 4294967295".into()));
     assert_eq!((revolutions("65535"), revolutions("17")), (Ok(65535), Ok(17)));
     assert_eq!(revolutions("65536"), Err("65536 is above 65535".into()));
@@ -45,8 +45,8 @@ fn times_have_units() {
     ] {
         assert_eq!(time(text), Ok(seconds), "{text}");
     }
-    assert_eq!(time("5m"), Err("\"m\" is no unit of time: s, min, h or d".into()));
-    assert_eq!(time("5 H"), Err("\"H\" is no unit of time: s, min, h or d".into()));
+    assert_eq!(time("5m"), Err("\"m\" is not a unit of time: s, min, h or d".into()));
+    assert_eq!(time("5 H"), Err("\"H\" is not a unit of time: s, min, h or d".into()));
     assert_eq!(time("h"), Err("\"h\" is not a number".into()));
     assert_eq!(time("1e308d"), Err("\"1e308d\" is too large for an f64".into()));
     assert_eq!(time(""), Err("is empty".into()));
@@ -55,7 +55,7 @@ fn times_have_units() {
 #[test]
 fn names_are_exact() {
     assert_eq!((mu("earth"), mu("398600.4418")), (Ok(398_600.441_8), Ok(398_600.441_8)));
-    assert_eq!(mu("Earth"), Err("\"Earth\" is no number and none of earth, moon, mars, sun".into()));
+    assert_eq!(mu("Earth"), Err("\"Earth\" is not a number and not one of earth, moon, mars, sun".into()));
     assert_eq!((way("short"), way("long")), (Ok(false), Ok(true)));
     assert_eq!(way("Short"), Err("\"Short\" is neither short nor long".into()));
     assert_eq!(vector("1, 2,3"), Ok([1.0, 2.0, 3.0]));

@@ -63,8 +63,8 @@ fn a_cut_record_is_a_fault() {
     let bytes = [answer(), answer()].concat();
     let mut records = Records::new(&bytes[..90]);
     assert!(matches!(records.next(), Ok(Ok(Some(_)))));
-    let words = "cut: 10 bytes of a head of 16".into();
+    let words = "cut short: 10 of the 16 bytes of a head".into();
     assert_eq!(records.next().unwrap(), Err(Fault { offset: 90, number: 2, words }));
-    let words = "cut: 79 bytes of 80".into();
+    let words = "cut short: 79 of 80 bytes".into();
     assert_eq!(first(&bytes[..79]), Err(Fault { offset: 79, number: 1, words }));
 }
