@@ -1,5 +1,5 @@
-//! The board: for each job the record of its highest revision, or a conflict at that revision. It is lent
-//! as 64 slots of bytes and worked on as a map from job to what is held for it.
+//! The board (02, A1). For each job it holds the record of the highest revision, or a conflict at that revision. The
+//! caller lends the board as 64 slots of bytes. The code works on a map from job to what the board holds for it.
 
 use crate::message::Message;
 use crate::record::LENGTH_SIZE;
@@ -11,17 +11,18 @@ pub const SLOTS: usize = 64;
 pub const SLOT: usize = 528;
 pub const SIZE: usize = SLOTS * SLOT;
 
-/// A conflict in its slot: length, kind, job and revision. The length doesn't count its own four bytes.
+/// A conflict in its slot consists of length, kind, job and revision. The length doesn't count its own four bytes.
 pub const CONFLICT_KIND: u16 = 4;
 pub const CONFLICT_LENGTH: u32 = 10;
 
-/// The refusals, in the order of the checks.
+/// The numbers of the refusals B0 to B3, in the order of the checks.
 pub const BAD_BOARD: u8 = 0;
 pub const MALFORMED: u8 = 1;
 pub const JOB_ZERO: u8 = 2;
 pub const NO_SLOT: u8 = 3;
 
-/// What is held for a job: the only record of its highest revision, or that there are several.
+/// What the board holds for a job: the only record of its highest revision, or a conflict if there are
+/// different records of that revision.
 #[derive(Clone, Debug, PartialEq, Eq)]
 pub enum Held {
     Record(Message),
@@ -41,7 +42,7 @@ impl Held {
         }
     }
 
-    /// What is held after one more message for the same job.
+    /// Returns what the board holds after one more message for the same job.
     fn after(&self, message: Message) -> Held {
         match message.revision.cmp(&self.revision()) {
             Ordering::Less => self.clone(),
@@ -51,8 +52,8 @@ impl Held {
         }
     }
 
-    /// What a filled slot holds by its length, whatever follows; none where that is neither a conflict nor
-    /// a well-formed record.
+    /// Reads what a filled slot holds. The slot's length says how many bytes count; the bytes after them
+    /// are ignored. Returns None if the slot holds neither a conflict nor a well-formed record.
     fn read(slot: &[u8]) -> Option<Held> {
         let length = u32::from_le_bytes(part(slot, LENGTH));
         let bytes = slot.get(..(length as usize).checked_add(LENGTH_SIZE)?)?;
@@ -64,7 +65,7 @@ impl Held {
         Message::read(bytes).map(Held::Record)
     }
 
-    /// The whole slot: what is held, and then zeros.
+    /// Returns the whole slot: the bytes that it holds, then zeros.
     fn slot(&self) -> [u8; SLOT] {
         let bytes = match self {
             Held::Record(message) => message.bytes.clone(),
@@ -76,7 +77,7 @@ impl Held {
     }
 }
 
-/// The bytes of a conflict.
+/// Returns the bytes of a conflict.
 pub fn conflict(job: u32, revision: u32) -> Vec<u8> {
     let mut bytes = CONFLICT_LENGTH.to_le_bytes().to_vec();
     bytes.extend(CONFLICT_KIND.to_le_bytes());
@@ -85,14 +86,14 @@ pub fn conflict(job: u32, revision: u32) -> Vec<u8> {
     bytes
 }
 
-/// What is held, by job.
+/// The contents of a board: what it holds, by job.
 #[derive(Clone, Debug, Default, PartialEq, Eq)]
 pub struct Board(BTreeMap<u32, Held>);
 
 impl Board {
-    /// The board of the bytes; none where they aren't 64 slots filled as they must be. The order of the
-    /// slots, the free ones and the zeros behind a record have one form only, so they are right exactly
-    /// where writing the board gives the bytes again.
+    /// Reads a board from its bytes. Returns None unless they are 64 slots filled as the rules demand
+    /// (02, A1). The order of the slots, the position of the free ones and the zeros after a record have
+    /// only one valid form. So they are right exactly when writing the board gives the same bytes again.
     pub fn read(bytes: &[u8]) -> Option<Board> {
         if bytes.len() != SIZE {
             return None;
@@ -103,19 +104,19 @@ impl Board {
         (!board.0.contains_key(&0) && board.write() == bytes).then_some(board)
     }
 
-    /// The slots in rising job number, the free ones all zeros and last.
+    /// Returns the board's bytes: the filled slots in order of rising job number, then the free slots, all zeros.
     pub fn write(&self) -> Vec<u8> {
         let mut bytes = self.held().map(Held::slot).collect::<Vec<_>>().concat();
         bytes.resize(SIZE, 0);
         bytes
     }
 
-    /// What is held, in rising job number.
+    /// Returns what the board holds, in order of rising job number.
     pub fn held(&self) -> impl Iterator<Item = &Held> {
         self.0.values()
     }
 
-    /// Takes a message; a refusal changes nothing.
+    /// Posts a message. A refusal, B2 or B3, changes nothing.
     pub fn take(&mut self, message: Message) -> Result<(), u8> {
         if message.job == 0 {
             return Err(JOB_ZERO);
@@ -135,7 +136,7 @@ impl Board {
     }
 }
 
-/// Posts the record to the board's bytes; a refusal is the number after its B, and changes nothing.
+/// Posts a record to the board's bytes. A refusal is returned as the digit after its B, and leaves the bytes unchanged.
 pub fn post(board: &mut [u8], record: &[u8]) -> Result<(), u8> {
     let mut held = Board::read(board).ok_or(BAD_BOARD)?;
     let message = Message::read(record).ok_or(MALFORMED)?;

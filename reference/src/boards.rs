@@ -1,4 +1,4 @@
-//! The lists of messages on which the board is compared: a fixed number, and any number of fresh ones.
+//! The lists of messages on which the board is compared: a fixed set of lists, and any number of random ones.
 
 mod damage;
 mod malformed;
@@ -17,12 +17,12 @@ use steps::{List, Step, LONGEST};
 pub use steps::lines as told;
 pub use stream::{board, records};
 
-/// The steps of every list.
+/// Returns the frames of all steps of the fixed lists.
 pub fn frames() -> Vec<u8> {
     lists().iter().flat_map(|list| framed(list)).collect()
 }
 
-/// What is told of every list, a line each.
+/// Returns the outcome of each fixed list, one line per list.
 pub fn lines() -> String {
     told(&frames()).expect("the frames are steps")
 }
@@ -49,7 +49,7 @@ fn lists() -> Vec<List> {
     all
 }
 
-/// The messages in each of their orders.
+/// Returns one list for each order of the messages.
 fn posted(messages: &[Vec<u8>], r: &mut Random) -> Vec<List> {
     orders(messages, r).map(listed).into()
 }
@@ -58,8 +58,8 @@ fn listed(messages: Vec<Vec<u8>>) -> List {
     messages.into_iter().map(Step::Post).chain([Step::End]).collect()
 }
 
-/// Every fault of refusals and of answers, and sizes from 0 to 600 and the largest, beside messages that
-/// are taken.
+/// Returns lists with every fault of a refusal and of an answer, and lists of records with many sizes below
+/// 600 and the two largest sizes. Each list also contains messages that the board takes.
 fn faulty(r: &mut Random) -> Vec<List> {
     let mut all = Vec::new();
     for base in [refusal(5, 5, r), answer(5, 5, 1, r), answer(5, 5, 8, r)] {
@@ -76,7 +76,8 @@ fn faulty(r: &mut Random) -> Vec<List> {
     all.into_iter().map(listed).collect()
 }
 
-/// Fresh messages, each of the `n` in several orders, and boards that are damaged.
+/// Returns the frames of `n` random cases. A case is a set of messages, posted in several orders, or a list
+/// that damages a board.
 pub fn random(n: u64, seed: u64) -> impl Iterator<Item = Vec<u8>> {
     let mut r = Random::new(seed);
     (0..n).map(move |_| fresh(&mut r).iter().flat_map(|list| framed(list)).collect())

@@ -1,6 +1,6 @@
-//! A short sign of many bytes, for lines that people read.
+//! A short fingerprint of many bytes, for lines that people read.
 
-/// FNV-1a of 64 bits.
+/// Returns the 64-bit FNV-1a hash of the bytes.
 pub fn hash(bytes: &[u8]) -> u64 {
     let next = |hash: u64, &b: &u8| (hash ^ u64::from(b)).wrapping_mul(0x100_0000_01B3);
     bytes.iter().fold(0xCBF2_9CE4_8422_2325, next)

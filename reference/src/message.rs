@@ -1,15 +1,15 @@
-//! The records that a board takes, answers and refusals, judged by their bytes alone. Two of them are the
-//! same only where their bytes are: the floats are never compared as floats.
+//! The records that a board takes: answers and refusals, judged by their bytes alone. Two records are the
+//! same only if their bytes are equal. Their floats are never compared as floats.
 
 use crate::record::{Record, ENTRY, HEAD};
 use crate::wire::part;
 
-/// An answer has 1 to 8 entries; a refusal's number is one of 1 to 14.
+/// An answer has 1 to 8 entries, and a refusal has a number from 1 to 14.
 pub const MOST_ENTRIES: usize = 8;
 pub const LAST_NUMBER: u16 = 14;
 
-/// Where an answer's number of entries stands, or a refusal's number; and in an entry the chosen end, a
-/// u32: 0 for the lower, 1 for the upper.
+/// The offset in a record of an answer's number of entries or of a refusal's number, and the offset in an
+/// entry of its chosen end, a u32 that is 0 for the lower end and 1 for the upper.
 pub const COUNT: usize = 14;
 pub const CHOSEN: usize = 12;
 
@@ -21,7 +21,7 @@ pub struct Message {
 }
 
 impl Message {
-    /// The message of a record's bytes; none where they are malformed.
+    /// Reads a record's bytes. Returns None if they are malformed (02, A1).
     pub fn read(bytes: &[u8]) -> Option<Message> {
         let record = Record::read(bytes)?;
         let in_force = match &record.outcome {

@@ -1,4 +1,4 @@
-//! Each sentence about the board, on examples.
+//! Tests each rule of the board (02, A1) on examples.
 
 use super::*;
 use crate::record::Record;
@@ -15,21 +15,21 @@ fn answer(job: u32, revision: u32, n: usize) -> Vec<u8> {
     Record { job, revision, outcome: Ok(vec![entry; n]) }.write()
 }
 
-/// The board after some records, none of them refused.
+/// Returns the board after the given records, none of which may be refused.
 fn board(records: &[Vec<u8>]) -> Vec<u8> {
     let mut bytes = vec![0; SIZE];
     records.iter().for_each(|record| assert_eq!(post(&mut bytes, record), Ok(())));
     bytes
 }
 
-/// The board with these bytes in its first slots.
+/// Returns a board with the given bytes in its first slots.
 fn slots(filled: &[Vec<u8>]) -> Vec<u8> {
     let mut bytes = vec![0; SIZE];
     filled.iter().enumerate().for_each(|(i, slot)| put(&mut bytes, SLOT * i, slot));
     bytes
 }
 
-/// The refusal of a record by a board, which must stay as it is.
+/// Returns the board's refusal of a record, if any, and checks that a refusal leaves the board unchanged.
 fn refused(board: &[u8], record: &[u8]) -> Option<u8> {
     let mut after = board.to_vec();
     let refusal = post(&mut after, record).err();
@@ -37,7 +37,7 @@ fn refused(board: &[u8], record: &[u8]) -> Option<u8> {
     refusal
 }
 
-/// Whether the bytes are refused as a board: whatever is posted, then.
+/// Reports whether the bytes are refused as a board (B0), and checks that this doesn't depend on the posted record.
 fn bad(bytes: &[u8]) -> bool {
     let records = [refusal(9, 9, 9), answer(1, 0, 8), vec![], refusal(0, 0, 1)];
     let first = records.each_ref().map(|record| refused(bytes, record) == Some(BAD_BOARD));
@@ -145,7 +145,8 @@ fn a_65th_job_is_refused_and_a_known_one_taken() {
     assert_eq!(refused(&full[..SIZE - SLOT], &refusal(1, 5, 1)), Some(BAD_BOARD));
 }
 
-/// A board that must be refused, a malformed record with job 0, and a full board: what is mended decides.
+/// Starts with a bad board that is full, and a malformed record with job 0, and removes these faults one by
+/// one. Each time the refusal must be that of the first check that still fails.
 #[test]
 fn the_order_of_the_refusals() {
     let full = full();

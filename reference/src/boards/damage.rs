@@ -1,4 +1,4 @@
-//! Boards that are damaged, posted to, and mended again.
+//! Lists that damage a board or lend it with another size, post to it, and restore it.
 
 use super::malformed;
 use super::messages::{message, refusal, variant};
@@ -10,14 +10,14 @@ use crate::random::Random;
 use crate::record::HEAD;
 use crate::wire::{part, put, JOB, KIND, LENGTH};
 
-/// A list as it is made, with the state after its steps so far.
+/// A list under construction, and the state after its steps so far.
 struct Script {
     stage: Stage,
     steps: List,
 }
 
 impl Script {
-    /// A board filled with records and conflicts for so many jobs.
+    /// Returns a script that fills a board with records and conflicts for the given number of jobs.
     fn filled(jobs: usize, r: &mut Random) -> Script {
         let mut script = Script { stage: Stage::new(), steps: Vec::new() };
         let apart = 1 + r.bits(16) as u32;
@@ -35,14 +35,14 @@ impl Script {
         self.steps.push(step);
     }
 
-    /// Turns the state to these bytes, by those that differ.
+    /// Changes the state to the given bytes, with one step for each byte that differs.
     fn turn_to(&mut self, state: &[u8]) {
         let differ = |&(place, value): &(usize, u8)| self.stage.state[place] != value;
         let places: Vec<_> = state.iter().copied().enumerate().filter(differ).collect();
         places.into_iter().for_each(|(place, value)| self.step(Step::Set(place as u32, value)));
     }
 
-    /// Damages the board, posts a record and mends the board again.
+    /// Damages the board, posts a record, and restores the board.
     fn round(&mut self, damaged: &[u8], record: Vec<u8>) {
         let sound = self.stage.state.clone();
         self.turn_to(damaged);
@@ -56,7 +56,7 @@ impl Script {
     }
 }
 
-/// A board with every sort of damage.
+/// Returns a list that damages the board once in each round, in a randomly chosen way (see `damage`).
 pub fn list(rounds: usize, r: &mut Random) -> List {
     let jobs = pick(&[1, 2, 3, 10, SLOTS - 1, SLOTS], r);
     let mut script = Script::filled(jobs, r);
@@ -68,7 +68,8 @@ pub fn list(rounds: usize, r: &mut Random) -> List {
     script.end()
 }
 
-/// Each byte of the first slots, as far as a record and a little further, changed alone.
+/// Returns a list that changes single bytes: in turn, each of the first `width` bytes of the filled slots
+/// and of the slot after them.
 pub fn every_byte(jobs: usize, width: usize, r: &mut Random) -> List {
     let mut script = Script::filled(jobs, r);
     for place in (0..=jobs).flat_map(|slot| (0..width).map(move |at| SLOT * slot + at)) {
@@ -79,7 +80,8 @@ pub fn every_byte(jobs: usize, width: usize, r: &mut Random) -> List {
     script.end()
 }
 
-/// A board of another size; what lies behind a board's own is told at the end too.
+/// Returns a list that lends the board with other sizes. It also sets a byte after the board. The hash at
+/// the end covers the board alone or that byte too.
 pub fn sizes(r: &mut Random) -> List {
     let jobs = pick(&[1, 10, SLOTS], r);
     let mut script = Script::filled(jobs, r);
@@ -94,7 +96,8 @@ pub fn sizes(r: &mut Random) -> List {
     script.end()
 }
 
-/// For a held job mostly, also a new one, a malformed one, and one for job 0: a damaged board comes first.
+/// Draws the record that is posted to a damaged board: mostly one for a job that the board holds, else one for a random
+/// job, a malformed one, or one for job 0. If the board is bad, it must be refused before any fault of the record.
 fn posted(state: &[u8], jobs: usize, r: &mut Random) -> Vec<u8> {
     let slot = SLOT * r.below(jobs as u64) as usize;
     let job = u32::from_le_bytes(part(state, slot + JOB));
@@ -107,7 +110,7 @@ fn posted(state: &[u8], jobs: usize, r: &mut Random) -> Vec<u8> {
     }
 }
 
-/// One damage of the first `jobs` slots or of the free ones behind them. Some leave the board sound.
+/// Damages the first `jobs` slots or the bytes after them in one randomly chosen way. Some ways leave the board valid.
 fn damage(state: &mut [u8], jobs: usize, r: &mut Random) {
     let slot = SLOT * r.below(jobs as u64) as usize;
     let job = u32::from_le_bytes(part(state, slot + JOB));
@@ -134,8 +137,8 @@ fn damage(state: &mut [u8], jobs: usize, r: &mut Random) {
     }
 }
 
-/// Something in a free slot, or behind the board where none is free: a record with a free slot before it,
-/// or a byte.
+/// Writes one byte into the first free slot or changes the board's last byte, or writes a record into the
+/// slot after the first free one. If that slot doesn't exist, the write goes to the bytes after the board.
 fn behind(state: &mut [u8], jobs: usize, r: &mut Random) {
     let free = SLOT * jobs;
     match r.below(4) {
@@ -146,7 +149,7 @@ fn behind(state: &mut [u8], jobs: usize, r: &mut Random) {
     }
 }
 
-/// A conflict with another length, kind or job.
+/// Returns a conflict with a wrong length, kind or job.
 fn wrong_conflict(job: u32, r: &mut Random) -> Vec<u8> {
     let mut bytes = conflict(job, 5);
     match r.below(3) {
@@ -157,7 +160,7 @@ fn wrong_conflict(job: u32, r: &mut Random) -> Vec<u8> {
     bytes
 }
 
-/// Fills the slot at a place with these bytes and then zeros.
+/// Fills the slot at offset `at` with the given bytes and then zeros.
 fn hold(state: &mut [u8], at: usize, bytes: &[u8]) {
     state[at..at + SLOT].fill(0);
     put(state, at, bytes);

@@ -1,12 +1,12 @@
-//! Messages that meet each other: many for few jobs and few revisions, and some for more jobs than a board
-//! holds. Where `faults` is n, one of n has a faulty one before it.
+//! Messages that compete on a board: many for few jobs and few revisions, and some for more jobs than a
+//! board holds. If `faults` is Some(n), about one message in n is preceded by a faulty one.
 
 use super::malformed;
 use super::messages::{message, refusal, variant};
 use super::pick;
 use crate::random::Random;
 
-/// Messages for 1 to 5 jobs: new ones, ones seen already, and ones a byte away from these.
+/// Returns messages for 1 to 5 jobs: new ones, repetitions of earlier ones, and earlier ones with one byte changed.
 pub fn few(faults: Option<u64>, r: &mut Random) -> Vec<Vec<u8>> {
     let jobs = jobs(r.below(5) as usize + 1, r);
     let (lowest, revisions) = (pick(&[0, 1, 0x7FFF_FFFE, u32::MAX - 3], r), 1 + r.below(4));
@@ -23,7 +23,7 @@ pub fn few(faults: Option<u64>, r: &mut Random) -> Vec<Vec<u8>> {
     with_faults(all, faults, r)
 }
 
-/// One to three messages for each of so many jobs.
+/// Returns one to three messages for each of the given number of jobs, in random order.
 pub fn crowd(jobs_in_all: usize, faults: Option<u64>, r: &mut Random) -> Vec<Vec<u8>> {
     let mut all = Vec::new();
     for job in jobs(jobs_in_all, r) {
@@ -35,7 +35,8 @@ pub fn crowd(jobs_in_all: usize, faults: Option<u64>, r: &mut Random) -> Vec<Vec
     with_faults(shuffled(all, r), faults, r)
 }
 
-/// Different jobs: neighbours, the highest, a byte apart, or anywhere.
+/// Returns `n` different jobs: consecutive ones from 1, the highest ones, ones with small values in
+/// different bytes, or random ones.
 fn jobs(n: usize, r: &mut Random) -> Vec<u32> {
     let sort = r.below(4);
     let mut all = Vec::new();
@@ -54,7 +55,7 @@ fn jobs(n: usize, r: &mut Random) -> Vec<u32> {
     all
 }
 
-/// The messages with malformed ones and ones for job 0 among them.
+/// Inserts malformed messages and messages for job 0.
 fn with_faults(sound: Vec<Vec<u8>>, faults: Option<u64>, r: &mut Random) -> Vec<Vec<u8>> {
     let Some(n) = faults else { return sound };
     let faulty = |message: Vec<u8>| match r.below(n) {
@@ -64,7 +65,8 @@ fn with_faults(sound: Vec<Vec<u8>>, faults: Option<u64>, r: &mut Random) -> Vec<
     sound.into_iter().flat_map(faulty).collect()
 }
 
-/// The messages as they are, reversed, shuffled with some of them repeated, and shuffled without.
+/// Returns the messages in four orders: as given, reversed, shuffled with some of them repeated, and
+/// shuffled without repetitions.
 pub fn orders(messages: &[Vec<u8>], r: &mut Random) -> [Vec<Vec<u8>>; 4] {
     let made = messages.to_vec();
     let reversed = messages.iter().rev().cloned().collect();

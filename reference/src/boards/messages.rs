@@ -1,4 +1,4 @@
-//! Well-formed records: few of them different, so that they meet on a board.
+//! Well-formed records. Most are refusals with few different numbers, so that equal records for a job occur often.
 
 use super::pick;
 use crate::message::{Message, LAST_NUMBER, MOST_ENTRIES};
@@ -6,7 +6,7 @@ use crate::random::Random;
 use crate::record::{Record, HEAD};
 use crate::solve::Entry;
 
-/// A refusal mostly, as it is short; else an answer, mostly with one or two entries.
+/// Returns a refusal in most cases, because it is short. Otherwise returns an answer, mostly with one or two entries.
 pub fn message(job: u32, revision: u32, r: &mut Random) -> Vec<u8> {
     match r.below(12) {
         0 => answer(job, revision, 1 + r.below(MOST_ENTRIES as u64) as usize, r),
@@ -15,13 +15,13 @@ pub fn message(job: u32, revision: u32, r: &mut Random) -> Vec<u8> {
     }
 }
 
-/// A refusal, often with one of three numbers.
+/// Returns a refusal. Half of the time its number is drawn from 1 to 3, else from all numbers.
 pub fn refusal(job: u32, revision: u32, r: &mut Random) -> Vec<u8> {
     let numbers = if r.below(2) == 0 { 3 } else { u64::from(LAST_NUMBER) };
     Record { job, revision, outcome: Err(1 + r.below(numbers) as u16) }.write()
 }
 
-/// An answer with any values in its entries.
+/// Returns an answer with `n` entries of random values.
 pub fn answer(job: u32, revision: u32, n: usize, r: &mut Random) -> Vec<u8> {
     let mut float = || f64::from_bits(r.word());
     let floats: Vec<_> = (0..n).map(|_| [(); 2].map(|()| [(); 3].map(|()| float()))).collect();
@@ -34,7 +34,7 @@ pub fn answer(job: u32, revision: u32, n: usize, r: &mut Random) -> Vec<u8> {
     Record { job, revision, outcome: Ok(floats.into_iter().map(entry).collect()) }.write()
 }
 
-/// The record with one byte behind job and revision changed, and well-formed again.
+/// Returns the record with one byte after job and revision changed, and still well-formed.
 pub fn variant(record: &[u8], r: &mut Random) -> Vec<u8> {
     loop {
         let mut other = record.to_vec();

@@ -1,4 +1,4 @@
-//! The state of the compared program: room for a slot more than a board has, and how much of it is lent.
+//! The state of the compared program: the bytes of a board and of one more slot, and how many of them are lent as the board.
 
 use super::steps::Step;
 use crate::board::{post, SIZE, SLOT};
@@ -17,8 +17,9 @@ impl Stage {
         Stage { state: vec![0; ROOM], size: SIZE }
     }
 
-    /// Does a step and tells its outcome: T for a record taken, the digit of its refusal otherwise; at the
-    /// end the hash of the bytes that are lent.
+    /// Performs a step and returns its report. For a record this is T if the board takes it, else the digit
+    /// of its refusal. At the end of a list it is the hash of the lent bytes, and the state then starts
+    /// again. For other steps it is empty.
     pub fn play(&mut self, step: &Step) -> String {
         match *step {
             Step::Post(ref record) => match post(&mut self.state[..self.size], record) {

@@ -1,8 +1,8 @@
-//! What the compared program is told, step by step: a command u16, then what belongs to it, little-endian.
+//! The steps that the compared program performs. Each is a u16 command followed by its data, all little-endian.
 
 use super::stage::Stage;
 
-/// A command up to this is the size of a record that follows.
+/// A command up to this value is the size of the record that follows.
 pub const LONGEST: usize = 1024;
 
 const END: u16 = 0xFFFF;
@@ -13,15 +13,15 @@ const LEND: u16 = 0xFFFD;
 pub enum Step {
     /// Post a record.
     Post(Vec<u8>),
-    /// Write a byte at a place of the state.
+    /// Write a byte at an offset of the state.
     Set(u32, u8),
-    /// Lend the board so many bytes of the state.
+    /// Lend this many bytes of the state as the board.
     Lend(u32),
-    /// End the list: tell what the state is, and start again.
+    /// End the list: report the hash of the lent bytes, and start again with a new state.
     End,
 }
 
-/// The steps of one line, the last of them its end.
+/// The steps that produce one line. The last of them is `End`.
 pub type List = Vec<Step>;
 
 impl Step {
@@ -34,7 +34,7 @@ impl Step {
         }
     }
 
-    /// The step at the beginning of the bytes, which then begin behind it; none where there is no step.
+    /// Reads the step at the beginning of the bytes and advances the bytes past it. Returns None if there is no valid step.
     fn read(bytes: &mut &[u8]) -> Option<Step> {
         match u16::from_le_bytes(take(bytes)?) {
             END => Some(Step::End),
@@ -50,14 +50,15 @@ impl Step {
     }
 }
 
-/// The first `N` of the bytes, which then begin behind them.
+/// Returns the first `N` bytes and advances the bytes past them. Returns None if there are fewer.
 fn take<const N: usize>(bytes: &mut &[u8]) -> Option<[u8; N]> {
     let (first, rest) = bytes.split_first_chunk()?;
     *bytes = rest;
     Some(*first)
 }
 
-/// What is told of all lists of a file: a line for each; none where the bytes are no steps.
+/// Performs all steps of a file and returns their reports, one line for each list. Returns None if the
+/// bytes aren't valid steps.
 pub fn lines(mut frames: &[u8]) -> Option<String> {
     let (mut stage, mut told) = (Stage::new(), String::new());
     while !frames.is_empty() {

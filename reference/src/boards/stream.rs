@@ -1,5 +1,5 @@
-//! One stream of records for the program that keeps a board: they follow each other, each by its length,
-//! which is right even where the record is malformed.
+//! One stream of records for the program that keeps a board. The records follow each other without gaps.
+//! Even a malformed record has a length that matches its size.
 
 use super::malformed;
 use super::meetings::shuffled;
@@ -11,11 +11,12 @@ use crate::record::{split, LENGTH_SIZE};
 
 const JOBS: u32 = 40;
 
-/// Above the other revisions, so that answers that fill their slots are held at the end.
+/// A revision above the others of the same job. The answers that fill their slots have it, so that the
+/// board holds some of them at the end.
 const HIGHEST: u32 = 5;
 
-/// The records of the stream: two or three for each job, some of them in conflict, and malformed ones
-/// among them.
+/// Returns the records of the stream: two or three for each job, some of them in conflict, mixed with
+/// records that the board refuses.
 pub fn records() -> Vec<u8> {
     let mut r = Random::new(21);
     let mut all = Vec::new();
@@ -35,7 +36,7 @@ pub fn records() -> Vec<u8> {
     shuffled(all, &mut r).concat()
 }
 
-/// Malformed records with the length of their size, and ones for job 0.
+/// Returns malformed records whose length matches their size, and records for job 0.
 fn unfit(r: &mut Random) -> Vec<Vec<u8>> {
     let (short, long) = (refusal(0x0505, 9, r), answer(0x0808, 9, 2, r));
     let framed = |bytes: &Vec<u8>| {
@@ -48,11 +49,11 @@ fn unfit(r: &mut Random) -> Vec<Vec<u8>> {
     all
 }
 
-/// The board after the stream.
+/// Returns the board after the stream.
 pub fn board() -> Vec<u8> {
     let mut bytes = vec![0; SIZE];
     for record in split(&records()) {
-        // a refusal changes nothing
+        // A refusal changes nothing.
         let _ = post(&mut bytes, record);
     }
     bytes

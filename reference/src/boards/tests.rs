@@ -1,4 +1,4 @@
-//! The lists hold every outcome, and every order of sound messages ends in one board.
+//! The lists contain every outcome, and for up to 64 jobs every order of the same messages ends in the same board.
 
 use super::*;
 use crate::board::{Board, Held, BAD_BOARD, JOB_ZERO, MALFORMED, SIZE};
@@ -8,7 +8,7 @@ use crate::record::split;
 use stage::{Stage, ROOM};
 use std::collections::BTreeMap;
 
-/// How often each character stands before the hashes.
+/// Counts each character that occurs before the hashes.
 fn tally(lines: &str) -> BTreeMap<char, usize> {
     let mut counts = BTreeMap::new();
     let outcomes = lines.lines().flat_map(|line| line.split(' ').next().unwrap().chars());
@@ -56,7 +56,7 @@ fn what_is_no_step() {
     assert_eq!(Step::End.frame(), [0xFF, 0xFF]);
 }
 
-/// The hash of each order's board.
+/// Returns the hash of the final board for each order of the messages.
 fn boards(messages: &[Vec<u8>], r: &mut Random) -> Vec<String> {
     let frames: Vec<u8> = posted(messages, r).iter().flat_map(|list| framed(list)).collect();
     let lines = told(&frames).unwrap();
@@ -75,7 +75,7 @@ fn every_order_ends_in_one_board() {
     }
 }
 
-/// What stands on a full board depends on who came first.
+/// With more than 64 jobs, the contents of the full board depend on which jobs came first.
 #[test]
 fn the_order_decides_beyond_64_jobs() {
     let mut r = Random::new(2);
@@ -84,7 +84,7 @@ fn the_order_decides_beyond_64_jobs() {
     assert!(ends[0] != ends[1]);
 }
 
-/// Few jobs meet often: some end in a conflict, some in a record of each kind.
+/// With few jobs, messages compete often: some jobs end in a conflict, others in a record.
 #[test]
 fn messages_meet() {
     let (mut conflicts, mut records) = (0, 0);
@@ -114,7 +114,7 @@ fn faults_are_faults() {
     }
 }
 
-/// Damage is found mostly, and what is mended ends as a sound board.
+/// Most damage is found, and after the repairs the board is valid.
 #[test]
 fn damaged_boards_are_mended() {
     let mut r = Random::new(5);

@@ -62,7 +62,7 @@ fn only_one_length() {
     }
 }
 
-/// Every other size is malformed, even where the length says that size.
+/// Every other size is malformed, even if the length matches that size.
 #[test]
 fn only_one_size() {
     for bytes in [refusal(1), answer(1), answer(8)] {
@@ -86,7 +86,7 @@ fn a_chosen_end_is_0_or_1_in_every_entry() {
     }
 }
 
-/// The board takes the rest of an entry as it comes.
+/// The board takes an entry whatever its other bytes are.
 #[test]
 fn nothing_else_of_an_entry_is_judged() {
     for at in (0..ENTRY).filter(|at| !(CHOSEN..CHOSEN + 4).contains(at)) {
