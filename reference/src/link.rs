@@ -1,28 +1,28 @@
-//! The reader of a thin link: it takes the bytes of a stream in pieces and gives out the stream's questions,
-//! one a call. It keeps what came behind the last question, and with each piece looks at all of this anew, so
-//! that it can't tell how the bytes were cut.
+//! The reader of a thin link (02, A2). It takes the bytes of a stream in pieces and gives out the stream's
+//! questions, one per call. It keeps the bytes after the last question and examines all of them again with
+//! each piece, so its results can't depend on how the bytes were cut.
 
 use crate::wire::{QUESTION_LENGTH, QUESTION_SIZE};
 
-/// The reader's state.
+/// The state of the reader.
 #[derive(Clone, Debug, PartialEq, Eq)]
 pub enum Link {
-    /// What came behind the last question: fewer bytes than a question has.
+    /// The bytes after the last question. They are fewer than a question has.
     Open(Vec<u8>),
-    /// A length was refused. Nothing is kept, and nothing is taken until the reset.
+    /// A length was refused. The reader keeps nothing, and takes nothing until the reset.
     Stopped,
 }
 
-/// What comes of one call.
+/// The result of one call.
 #[derive(Clone, Debug, PartialEq, Eq)]
 pub enum Came {
-    /// All bytes of a question, whatever stands behind its length.
+    /// All bytes of a question. Only its length has been checked.
     Question(Vec<u8>),
     /// No question is finished.
     Nothing,
-    /// Number 1: a length that isn't a question's.
+    /// Number 1: the length isn't that of a question.
     Refused,
-    /// B4.
+    /// B4: the reader needs a reset.
     NeedsReset,
 }
 
@@ -39,7 +39,7 @@ impl Link {
         *self == Link::Stopped
     }
 
-    /// The bytes of the unfinished question.
+    /// Returns the bytes of the unfinished question.
     pub fn kept(&self) -> &[u8] {
         match self {
             Link::Open(kept) => kept,
@@ -47,8 +47,8 @@ impl Link {
         }
     }
 
-    /// Takes some bytes of the piece, up to a question's last or all of them: how many, and what came. The
-    /// rest is to be handed in again.
+    /// Takes bytes of the piece: up to the last byte of a question, all of them if they finish none, or none of them
+    /// if a reset is needed. Returns how many bytes it took, and the result. The caller passes the rest in again.
     pub fn take(&mut self, piece: &[u8]) -> (usize, Came) {
         let Link::Open(kept) = self else { return (0, Came::NeedsReset) };
         let missing = QUESTION_SIZE - kept.len();
@@ -62,8 +62,8 @@ impl Link {
         (taken, came)
     }
 
-    /// Takes the piece and then its rest, as long as there is any and no reset is needed: what each call took
-    /// and gave.
+    /// Calls `take` with the piece and then with its rest, until nothing is left or a reset is needed.
+    /// Returns how many bytes each call took, and its result.
     pub fn take_all(&mut self, mut piece: &[u8]) -> Vec<(usize, Came)> {
         let mut calls = Vec::new();
         loop {

@@ -1,4 +1,4 @@
-//! Each sentence about the reader, on examples.
+//! Tests each rule of the reader (02, A2) on examples.
 
 use super::*;
 use crate::questions::{document, earth};
@@ -12,7 +12,7 @@ fn lengthened(length: u32) -> Vec<u8> {
     with(&question(), LENGTH, &length.to_le_bytes())
 }
 
-/// A reader that was handed these pieces.
+/// Returns a reader that has taken the given pieces.
 fn after(pieces: &[&[u8]]) -> Link {
     let mut link = Link::new();
     pieces.iter().for_each(|piece| {
@@ -21,7 +21,7 @@ fn after(pieces: &[&[u8]]) -> Link {
     link
 }
 
-/// A reader that refused a length.
+/// Returns a reader that has refused a length.
 fn stopped() -> Link {
     after(&[&lengthened(77)])
 }
@@ -83,7 +83,7 @@ fn every_other_length_is_refused() {
     }
 }
 
-/// Also what would be a good question if it came alone.
+/// The dropped bytes include records that would be good questions on their own.
 #[test]
 fn the_rest_of_a_refused_piece_is_dropped() {
     let piece = [&question()[..], &lengthened(79), &question(), &question()].concat();

@@ -5,14 +5,15 @@ use crate::wire::QUESTION_SIZE;
 
 pub type Cutting = Vec<Vec<u8>>;
 
-/// In single bytes, in one piece, in small pieces, in larger ones, and near the ends of the questions.
+/// Cuts the stream in five ways: into single bytes, into one piece, into small pieces, into larger pieces,
+/// and near the ends of the questions.
 pub fn cuttings(stream: &[u8], r: &mut Random) -> [Cutting; 5] {
     let single = stream.chunks(1).map(<[u8]>::to_vec).collect();
     let whole = vec![stream.to_vec()];
     [single, whole, sized(stream, small, r), sized(stream, larger, r), at_ends(stream, r)]
 }
 
-/// Pieces of drawn sizes, and up to two of no bytes behind the last.
+/// Cuts the stream into pieces of random sizes, and adds up to two empty pieces at the end.
 pub fn sized(mut stream: &[u8], size: fn(&mut Random) -> usize, r: &mut Random) -> Cutting {
     let mut pieces = Vec::new();
     while !stream.is_empty() {
@@ -24,7 +25,7 @@ pub fn sized(mut stream: &[u8], size: fn(&mut Random) -> usize, r: &mut Random) 
     pieces
 }
 
-/// A few bytes, often none.
+/// Draws a size from 1 to 24, or 0 one time in five.
 fn small(r: &mut Random) -> usize {
     match r.below(5) {
         0 => 0,
@@ -32,13 +33,14 @@ fn small(r: &mut Random) -> usize {
     }
 }
 
-/// Some tens of bytes, or some hundreds; rarely none.
+/// Draws a size from 0 to a limit of 1, 60, 100 or 300.
 pub fn larger(r: &mut Random) -> usize {
     let most = pick(&[1, 60, 100, 300, 300], r);
     r.below(most + 1) as usize
 }
 
-/// Pieces that end one byte before a question's end, at it, or up to five bytes behind it: the length has four.
+/// Cuts the stream at random points from one byte before to five bytes after the end of a question. These
+/// points include every position within the next length, which has four bytes.
 fn at_ends(stream: &[u8], r: &mut Random) -> Cutting {
     let mut from = 0;
     let near = |&at: &usize| (at + 1) % QUESTION_SIZE < 7;

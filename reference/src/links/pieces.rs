@@ -1,4 +1,4 @@
-//! Pieces for the program at the end of a link: one fixed stream, and fresh ones with every ending.
+//! Pieces for the program at the end of a link: one fixed stream, and random ones with every kind of ending.
 
 use super::cuttings::{larger, sized, Cutting};
 use super::questions::good;
@@ -7,11 +7,11 @@ use crate::random::{pick, Random};
 use crate::solver;
 use crate::wire::{part, LENGTH, QUESTION_LENGTH, QUESTION_SIZE};
 
-/// One of so many of the solver's list is taken. The list goes round the eight kinds of flights: with seven,
-/// each has its turn.
+/// Only every seventh question of the solver's list is taken. The list cycles through the eight kinds of
+/// flights, so with a step of seven each kind has its turn.
 const APART: usize = 7;
 
-/// The pieces of questions of every sort, then a bad length, and then further pieces.
+/// Returns the fixed stream in framed pieces: questions of every sort, then a bad length, then further pieces.
 pub fn pieces() -> Vec<u8> {
     let mut r = Random::new(24);
     let all = solver::slots().into_iter().filter(of_a_length).step_by(APART);
@@ -20,13 +20,13 @@ pub fn pieces() -> Vec<u8> {
     [cut(&stopped, &mut r), cut(&behind, &mut r)].concat().iter().flat_map(|piece| framed(piece)).collect()
 }
 
-/// Whether the length is a question's: another would end the stream.
+/// Reports whether the length is that of a question. Any other length would end the stream.
 fn of_a_length(slot: &[u8; QUESTION_SIZE]) -> bool {
     u32::from_le_bytes(part(slot, LENGTH)) == QUESTION_LENGTH
 }
 
-/// A fresh stream of `n` questions. It ends by the seed: with the last question, with an unfinished one, with a
-/// bad length and further pieces, or with a piece that is cut short.
+/// Returns a random stream of `n` questions in framed pieces. The seed determines its ending: the last
+/// question, an unfinished question, a bad length with further pieces after it, or a piece that is cut short.
 pub fn random_pieces(n: u64, seed: u64) -> impl Iterator<Item = Vec<u8>> {
     let mut r = Random::new(seed);
     let drawn = solver::random(u64::MAX, r.word()).filter(of_a_length).take(n as usize);
@@ -49,7 +49,7 @@ pub fn random_pieces(n: u64, seed: u64) -> impl Iterator<Item = Vec<u8>> {
     cutting.into_iter().map(|piece| framed(&piece)).chain([last])
 }
 
-/// Pieces as a radio hands them over, rarely one that holds many questions.
+/// Cuts the stream into pieces as a radio delivers them, with a rare one that holds many questions.
 fn cut(stream: &[u8], r: &mut Random) -> Cutting {
     let size = |r: &mut Random| match r.below(24) {
         0 => r.below(5000) as usize,
@@ -62,18 +62,18 @@ fn framed(piece: &[u8]) -> Vec<u8> {
     frame(piece.len(), piece)
 }
 
-/// A piece of which these bytes came and some didn't.
+/// Frames a piece of which only the given bytes arrived.
 fn cut_short(came: &[u8], r: &mut Random) -> Vec<u8> {
     let missing = 1 + pick(&[0, r.below(300), r.below(60_000)], r) as usize;
     frame(came.len() + missing, came)
 }
 
-/// The size of a piece, u16 little-endian, and what came of it.
+/// Returns the size of a piece as a u16, little-endian, and the bytes of it that arrived.
 fn frame(size: usize, came: &[u8]) -> Vec<u8> {
     [&(size as u16).to_le_bytes()[..], came].concat()
 }
 
-/// One byte of a size, which is no piece, or nothing.
+/// Returns a single byte, which is half of a size and not a piece, or nothing.
 fn lone(r: &mut Random) -> Vec<u8> {
     (0..r.below(2)).map(|_| r.bits(8) as u8).collect()
 }

@@ -1,10 +1,10 @@
-//! The program at the end of a link: it reads pieces and writes the record of each question.
+//! The program at the end of a link. It reads pieces and writes the record of each question.
 
 use crate::link::{Came, Link};
 use crate::record::Record;
 
-/// The records for an input of pieces. It ends at a refused length, and an unfinished question at the end is
-/// refused too.
+/// Returns the records for an input of pieces. A refused length gets number 1, and nothing more is written
+/// after it. An unfinished question at the end also gets number 1.
 pub fn answer(input: &[u8]) -> Vec<u8> {
     let mut link = Link::new();
     let mut records = Vec::new();
@@ -21,13 +21,13 @@ pub fn answer(input: &[u8]) -> Vec<u8> {
     }
 }
 
-/// The refusal of bytes that aren't a question.
+/// Returns the refusal of bytes that aren't a question.
 fn number_1() -> Vec<u8> {
     Record { job: 0, revision: 0, outcome: Err(1) }.write()
 }
 
-/// The pieces of the input: a size u16, little-endian, and so many bytes. The last may be cut short; one byte
-/// of a size is no piece.
+/// Splits the input into pieces. Each is a size as a u16, little-endian, and that many bytes. The last
+/// piece may be cut short. A single byte at the end is half of a size and not a piece.
 fn pieces(mut input: &[u8]) -> Vec<&[u8]> {
     let mut all = Vec::new();
     while let Some((size, rest)) = input.split_first_chunk() {

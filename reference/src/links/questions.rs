@@ -1,4 +1,4 @@
-//! Questions of the right length, whatever stands behind it.
+//! Questions with the right length and any contents after it.
 
 use crate::random::{pick, Random};
 use crate::record::LENGTH_SIZE;
@@ -6,10 +6,10 @@ use crate::solver::missions;
 use crate::wire::{put_float, with, QUESTION_LENGTH, QUESTION_SIZE};
 use crate::wire::{JOB, KIND, MU, REVOLUTIONS, SPARE, TIME, WAY};
 
-/// How many bytes stand behind the length.
+/// The number of bytes after the length.
 const BEHIND: usize = QUESTION_SIZE - LENGTH_SIZE;
 
-/// A good question mostly, else one with another fault, or with any bytes.
+/// Draws a good question in most cases, else one with another fault or with arbitrary bytes.
 pub fn question(r: &mut Random) -> Vec<u8> {
     match r.below(6) {
         0 => pick(&faulty(r), r),
@@ -18,17 +18,17 @@ pub fn question(r: &mut Random) -> Vec<u8> {
     }
 }
 
-/// So many questions one after another.
+/// Returns `n` questions, one after another.
 pub fn questions(n: u64, r: &mut Random) -> Vec<u8> {
     (0..n).flat_map(|_| question(r)).collect()
 }
 
-/// A question as missions ask it.
+/// Draws a question as missions ask it.
 pub fn good(r: &mut Random) -> Vec<u8> {
     missions(1, r.word()).flatten().collect()
 }
 
-/// Every fault of a field but the length's, one at a time.
+/// Returns a question with each fault of a field other than the length, one at a time.
 pub fn faulty(r: &mut Random) -> Vec<Vec<u8>> {
     let base = good(r);
     let kinds = [0, 2, 3, 4, 5, 257, 0x0100].map(|kind: u16| with(&base, KIND, &kind.to_le_bytes()));
@@ -44,7 +44,8 @@ pub fn faulty(r: &mut Random) -> Vec<Vec<u8>> {
     all
 }
 
-/// Any bytes behind a right length: random ones, one byte over and over, and right lengths at every place.
+/// Returns arbitrary bytes after a right length: random ones, one byte repeated, and the bytes of a right
+/// length repeated, starting with each of them.
 pub fn wild(r: &mut Random) -> Vec<Vec<u8>> {
     let length = QUESTION_LENGTH.to_le_bytes();
     let mut behind: Vec<Vec<u8>> = vec![(0..BEHIND).map(|_| r.bits(8) as u8).collect()];

@@ -1,16 +1,16 @@
-//! What the compared program is told, step by step, and what it tells.
+//! The steps that the compared program performs, and its reports.
 
 use crate::link::{Came, Link};
 
-/// A command u16, little-endian, is the size of a piece that follows, or an end.
+/// Each step begins with a u16 command, little-endian: the size of the piece that follows, up to `LONGEST`, or `END`.
 pub const LONGEST: usize = 4096;
 const END: u16 = 0xFFFF;
 
 #[derive(Clone, Debug, PartialEq, Eq)]
 pub enum Step {
-    /// Hand in a piece.
+    /// Pass in a piece.
     Piece(Vec<u8>),
-    /// End the stream: tell what the state is, and reset the reader.
+    /// End the stream: report the state, and reset the reader.
     End,
 }
 
@@ -22,7 +22,7 @@ impl Step {
         }
     }
 
-    /// The step at the beginning of the bytes, which then begin behind it; none where there is no step.
+    /// Reads the step at the beginning of the bytes and advances the bytes past it. Returns None if there is no valid step.
     fn read(bytes: &mut &[u8]) -> Option<Step> {
         let (command, rest) = bytes.split_first_chunk()?;
         let (step, rest) = match u16::from_le_bytes(*command) {
@@ -38,7 +38,8 @@ impl Step {
     }
 }
 
-/// What is told of all steps of a file: a line for each end; none where the bytes are no steps.
+/// Performs all steps of a file and returns their reports, one line for each end. Returns None if the bytes
+/// aren't valid steps.
 pub fn lines(mut frames: &[u8]) -> Option<String> {
     let (mut link, mut told) = (Link::new(), String::new());
     while !frames.is_empty() {
@@ -53,7 +54,7 @@ pub fn lines(mut frames: &[u8]) -> Option<String> {
     Some(told)
 }
 
-/// A letter, the number of bytes taken, and the bytes of a question.
+/// Reports a call: a letter, the number of bytes taken, and the bytes of a question.
 fn call((taken, came): &(usize, Came)) -> String {
     match came {
         Came::Question(bytes) => format!("Q{taken}={}", words(bytes)),
@@ -63,13 +64,13 @@ fn call((taken, came): &(usize, Came)) -> String {
     }
 }
 
-/// The number of kept bytes and themselves, and a mark where a reset is needed.
+/// Reports the state: the number of kept bytes, the bytes themselves, and a mark if a reset is needed.
 fn state(link: &Link) -> String {
     let mark = if link.needs_reset() { "!" } else { "" };
     format!(" K{}={}{mark}\n", link.kept().len(), words(link.kept()))
 }
 
-/// The bytes as hexadecimal numbers of eight bytes each, little-endian, with zeros after the last.
+/// Writes the bytes as hexadecimal words of eight bytes each, little-endian, with the last word padded with zeros.
 fn words(bytes: &[u8]) -> String {
     let word = |part: &[u8]| part.iter().rev().fold(0, |word, byte| word << 8 | u64::from(*byte));
     bytes.chunks(8).map(|part| format!("{:016x}", word(part))).collect()

@@ -1,12 +1,13 @@
-//! Streams of bytes from one reset to the next: questions one after another, and then perhaps an unfinished
-//! one, a bad length with anything behind it, or a part of a bad length.
+//! Streams of bytes from one reset to the next: questions one after another, then possibly an unfinished
+//! question, a bad length with anything after it, or a part of a bad length.
 
 use super::questions::{faulty, good, question, questions, wild};
 use crate::random::{pick, Random};
 use crate::record::LENGTH_SIZE;
 use crate::wire::{QUESTION_LENGTH, QUESTION_SIZE};
 
-/// Lengths near a question's, of other records, with one more bit and with the bytes elsewhere.
+/// Bad lengths: the least and the greatest, ones near a question's, ones of other records, a question's
+/// with one more bit, with its bytes moved, and with all bits flipped.
 pub const BAD: [u32; 14] = [
     0,
     12,
@@ -24,7 +25,7 @@ pub const BAD: [u32; 14] = [
     u32::MAX,
 ];
 
-/// The streams of the fixed list.
+/// Returns the streams of the fixed list.
 pub fn list() -> Vec<Vec<u8>> {
     let mut r = Random::new(22);
     let mut all = vec![vec![]];
@@ -45,7 +46,8 @@ pub fn list() -> Vec<Vec<u8>> {
     all
 }
 
-/// A fresh stream: up to four questions mostly, and an ending; else random bytes or none.
+/// Draws a stream: in most cases up to four questions and an ending, else up to eleven questions and an
+/// ending, random bytes, or nothing.
 pub fn fresh(r: &mut Random) -> Vec<u8> {
     let before = match r.below(20) {
         0 => return Vec::new(),
@@ -56,7 +58,7 @@ pub fn fresh(r: &mut Random) -> Vec<u8> {
     [questions(before, r), ending(r)].concat()
 }
 
-/// What stands behind a stream's last question.
+/// Draws the bytes after a stream's last question.
 fn ending(r: &mut Random) -> Vec<u8> {
     let (size, length) = (r.below(QUESTION_SIZE as u64) as usize, bad_length(r));
     match r.below(8) {
@@ -67,13 +69,13 @@ fn ending(r: &mut Random) -> Vec<u8> {
     }
 }
 
-/// The first bytes of a question.
+/// Draws a question and returns its first `size` bytes.
 pub fn unfinished(size: usize, r: &mut Random) -> Vec<u8> {
     question(r)[..size].to_vec()
 }
 
-/// A bad length and what comes behind it: nothing, a few bytes, a good question, or good ones at their places
-/// as if the bad length were a question's.
+/// Returns a bad length and the bytes after it. `more` chooses these: nothing, a few bytes, a good
+/// question, or questions that begin where they would if the bad length were a question's.
 pub fn refused(length: u32, more: u64, r: &mut Random) -> Vec<u8> {
     let few = 1 + r.below(9) as usize;
     let behind = match more {
@@ -85,7 +87,7 @@ pub fn refused(length: u32, more: u64, r: &mut Random) -> Vec<u8> {
     [&length.to_le_bytes()[..], &behind].concat()
 }
 
-/// One of the lengths above, one with a byte changed, or any other than a question's.
+/// Draws a length from `BAD`, a question's length with one byte changed, or any length other than a question's.
 pub fn bad_length(r: &mut Random) -> u32 {
     let (byte, place) = (1 + r.below(255) as u32, 8 * r.below(4));
     match r.below(4) {
@@ -95,7 +97,7 @@ pub fn bad_length(r: &mut Random) -> u32 {
     }
 }
 
-/// Random bytes, also fewer than a length has.
+/// Draws random bytes, sometimes fewer than a length has.
 fn noise(r: &mut Random) -> Vec<u8> {
     let most = pick(&[8, 200], r);
     (0..r.below(most)).map(|_| r.bits(8) as u8).collect()

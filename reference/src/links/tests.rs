@@ -1,14 +1,14 @@
-//! However a stream is cut, what comes of it is the same; and the lines hold every outcome.
+//! However a stream is cut, its outcome is the same, and the lines contain every kind of result.
 
 use super::*;
 use crate::link::{Came, Link};
 use crate::wire::{part, QUESTION_SIZE};
 use std::collections::BTreeMap;
 
-/// The questions and refusals of a stream in their order, B4 apart, and the state at its end.
+/// The questions and refusals of a stream in their order, except B4, and the state at its end.
 type Outcome = (Vec<Came>, Link);
 
-/// What comes of a stream in these pieces.
+/// Returns the outcome of a stream in the given pieces.
 fn outcome(pieces: &[Vec<u8>]) -> Outcome {
     let mut link = Link::new();
     let calls: Vec<(usize, Came)> = pieces.iter().flat_map(|piece| link.take_all(piece)).collect();
@@ -16,7 +16,7 @@ fn outcome(pieces: &[Vec<u8>]) -> Outcome {
     (calls.into_iter().map(|(_, came)| came).filter(told).collect(), link)
 }
 
-/// What must come of a stream, without any pieces: its records stand 82 bytes apart.
+/// Returns the outcome that a stream must have, computed without pieces: its records are 82 bytes apart.
 pub(super) fn due(stream: &[u8]) -> Outcome {
     let mut came = Vec::new();
     for record in stream.chunks(QUESTION_SIZE) {
@@ -43,7 +43,7 @@ fn every_cutting_gives_the_same() {
     }
 }
 
-/// Three pieces, with and without empty ones between them, cut at every two places.
+/// Cuts a stream at every two positions into three pieces, with and without empty ones between them.
 #[test]
 fn every_two_places_give_the_same() {
     let mut r = Random::new(2);
@@ -61,7 +61,7 @@ fn every_two_places_give_the_same() {
     }
 }
 
-/// The bytes of a line's questions, its refusals and the state at its end.
+/// Returns the bytes of a line's questions, the number of its refusals, and the state at its end.
 fn told_of(line: &str) -> (Vec<&str>, usize, &str) {
     let (calls, state) = line.split_once(' ').unwrap();
     let questions = calls.split('=').skip(1).map(|told| &told[..11 * 16]);
@@ -76,7 +76,7 @@ fn lines_of_one_stream_agree() {
     }
 }
 
-/// How often each letter of a call is told.
+/// Counts the letters of the calls.
 fn tally(lines: &str) -> BTreeMap<char, usize> {
     let mut counts = BTreeMap::new();
     lines.chars().filter(|c| "QNRB".contains(*c)).for_each(|c| *counts.entry(c).or_default() += 1);

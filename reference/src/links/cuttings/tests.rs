@@ -1,10 +1,11 @@
-//! Pieces of every sort: they are the stream's own bytes, and end where they are asked to.
+//! The pieces of every cutting are the stream's own bytes, and they end where they should.
 
 use super::*;
 use crate::links::questions::questions;
 use std::collections::BTreeSet;
 
-/// One byte before a question's end, at it, behind it and at every byte of a length; some pieces are empty.
+/// The last cutting cuts one byte before the end of a question, at it, and up to five bytes after it, so at
+/// every byte of a length. Some pieces are empty.
 #[test]
 fn cuttings_of_every_sort() {
     let mut r = Random::new(1);

@@ -1,4 +1,4 @@
-//! The pieces are answered as their questions are in slots, and end as they are asked to.
+//! Questions in pieces get the same answers as in slots, and the streams end as they should.
 
 use super::*;
 use crate::link::Came;
@@ -7,7 +7,7 @@ use crate::links::{answer, records};
 use crate::record::{replies, split, Record};
 use std::collections::{BTreeMap, BTreeSet};
 
-/// The bytes of the stream in the pieces of an input.
+/// Returns the bytes of the stream that the pieces of an input contain.
 fn stream_of(mut input: &[u8]) -> Vec<u8> {
     let mut stream = Vec::new();
     while let [low, high, rest @ ..] = input {
@@ -18,15 +18,14 @@ fn stream_of(mut input: &[u8]) -> Vec<u8> {
     stream
 }
 
-/// How many questions of the stream are given out, whether a part of one is kept, and whether a length is
-/// refused.
+/// Returns how many questions of the stream are given out, whether a part of one is kept, and whether a length is refused.
 fn end(stream: &[u8]) -> (usize, bool, bool) {
     let (came, link) = due(stream);
     let asked = came.iter().filter(|came| **came != Came::Refused).count();
     (asked, !link.kept().is_empty(), link.needs_reset())
 }
 
-/// A record for each question, then number 1, and nothing more.
+/// The program writes a record for each question, then number 1, and nothing more.
 #[test]
 fn the_list_of_pieces() {
     let (pieces, records) = (pieces(), records());
@@ -47,7 +46,7 @@ fn the_list_of_pieces() {
     assert!([1, 2, 3, 4, 5, 6, 8, 9, 10, 11].iter().all(|&number| kinds.contains_key(&Err(number))));
 }
 
-/// A piece that is cut short ends in a question, in a part of one, in a bad length, or has no bytes.
+/// A piece that is cut short contains a whole question, a part of one, a bad length, or no bytes.
 #[test]
 fn fresh_pieces_end_by_the_seed() {
     let mut short = BTreeSet::new();

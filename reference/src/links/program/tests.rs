@@ -1,16 +1,16 @@
-//! Each sentence about the program at the end of a link, on examples.
+//! Tests each rule of the program at the end of a link on examples.
 
 use super::*;
 use crate::questions::{document, earth};
 use crate::record::replies;
 use crate::wire::{with, Question, LENGTH};
 
-/// The input of these pieces.
+/// Returns the input that consists of the given pieces.
 fn input(pieces: &[&[u8]]) -> Vec<u8> {
     pieces.iter().flat_map(|piece| [&(piece.len() as u16).to_le_bytes()[..], piece].concat()).collect()
 }
 
-/// The document's question and its record.
+/// Returns 01's worked question and its record.
 fn asked() -> (Vec<u8>, Vec<u8>) {
     (document().write().to_vec(), vec![0x0C, 0, 0, 0, 3, 0, 7, 0, 0, 0, 2, 0, 0, 0, 0x0B, 0])
 }
@@ -81,7 +81,7 @@ fn the_end_of_the_input_within_a_piece() {
     assert_eq!(answer(&sized(5, &[79])), NUMBER_1);
 }
 
-/// One byte of a size is no piece, whatever is kept.
+/// A single byte in place of a size isn't a piece, whatever the reader keeps.
 #[test]
 fn the_end_of_the_input_within_a_size() {
     let (q, record) = asked();

@@ -1,4 +1,4 @@
-//! The frames and lines, on examples.
+//! Tests the frames and lines on examples.
 
 use super::*;
 use crate::questions::document;

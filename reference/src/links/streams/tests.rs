@@ -1,4 +1,5 @@
-//! The streams of the list end in every way, and what is bad about a length or a question is what is said.
+//! The streams of the list end in every way, bad lengths are bad, and faulty questions have the right
+//! length and the expected fault.
 
 use super::*;
 use crate::link::{Came, Link};
@@ -8,8 +9,8 @@ use crate::record::Record;
 use crate::wire::{part, LENGTH};
 use std::collections::BTreeSet;
 
-/// Every size of an unfinished question, every part of a bad length, and every bad length, behind questions
-/// and at the beginning.
+/// Unfinished questions of every size, every part of a bad length, and every bad length occur. Bad lengths
+/// occur both at the beginning of a stream and after questions.
 #[test]
 fn endings_of_every_sort() {
     let (mut kept, mut parts, mut refused) = (BTreeSet::new(), BTreeSet::new(), BTreeSet::new());
