@@ -1,4 +1,4 @@
-//! The questions on which the entrance is compared, in a fixed order.
+//! The questions on which the entrance checks are compared, in a fixed order.
 
 mod bounds;
 mod damage;
@@ -13,11 +13,11 @@ use crate::entrance::ROOM;
 use crate::random::Random;
 use crate::wire::Question;
 
-/// The longest question of the list, and the size of a frame that holds any of them.
+/// The size of the longest question of the list, and the size of a frame that holds any of them.
 pub const LONGEST: usize = 120;
 pub const FRAME: usize = 4 + LONGEST;
 
-/// What is handed to the entrance: the bytes of a question and the room of the answer buffer.
+/// The input of the entrance checks: the bytes of a question, and the size of the answer buffer.
 #[derive(Clone, Debug)]
 pub struct Case {
     pub bytes: Vec<u8>,
@@ -29,7 +29,8 @@ impl Case {
         Case { bytes: bytes.to_vec(), room }
     }
 
-    /// Size and room, each u16 little-endian, then the bytes and zeros up to the frame's end.
+    /// Returns the size and the room, each as a u16, little-endian, then the bytes, padded with zeros to
+    /// the end of the frame.
     pub fn frame(&self) -> [u8; FRAME] {
         let mut frame = [0; FRAME];
         frame[..2].copy_from_slice(&(self.bytes.len() as u16).to_le_bytes());
@@ -39,7 +40,7 @@ impl Case {
     }
 }
 
-/// Every case of the comparison.
+/// Returns every case of the comparison.
 pub fn cases() -> Vec<Case> {
     let mut r = Random::new(8);
     let mut whole = ordinary::questions(&mut r);
@@ -60,7 +61,7 @@ pub fn cases() -> Vec<Case> {
     all
 }
 
-/// A room that suffices, often the least.
+/// Draws a sufficient room, half of the time the smallest one.
 fn enough(r: &mut Random) -> u16 {
     match r.below(4) {
         0 => ROOM as u16 + r.below(2000) as u16,
@@ -69,7 +70,7 @@ fn enough(r: &mut Random) -> u16 {
     }
 }
 
-/// The document's question: job 7, revision 2, M = 1, short way.
+/// Returns 01's worked question: job 7, revision 2, M = 1, short way.
 pub(crate) fn document() -> Question {
     Question {
         length: crate::wire::QUESTION_LENGTH,
@@ -86,7 +87,7 @@ pub(crate) fn document() -> Question {
     }
 }
 
-/// A question around the Earth, in km and s.
+/// Returns a question around the Earth, in km and s.
 pub(crate) fn earth() -> Question {
     Question {
         job: 0x0102_0304,

@@ -1,4 +1,4 @@
-//! A fixed stream of pseudo-random words (SplitMix64), so that every run makes the same vectors.
+//! A fixed stream of pseudo-random words (SplitMix64), so that every run produces the same test data.
 
 pub struct Random(u64);
 
@@ -15,7 +15,7 @@ impl Random {
         z ^ (z >> 31)
     }
 
-    /// A word of at most `n` bits.
+    /// Returns a random word of at most `n` bits.
     pub fn bits(&mut self, n: u32) -> u64 {
         if n == 0 {
             0
@@ -24,18 +24,18 @@ impl Random {
         }
     }
 
-    /// A whole number below `n`, for a small `n`.
+    /// Returns a random whole number below `n`, for a small `n`.
     pub fn below(&mut self, n: u64) -> u64 {
         self.word() % n
     }
 
-    /// A float from 0 to below 1, of 53 random bits.
+    /// Returns a float from 0 to below 1, with 53 random bits.
     pub fn fraction(&mut self) -> f64 {
         self.bits(53) as f64 / (1u64 << 53) as f64
     }
 }
 
-/// One of some things.
+/// Returns a random element.
 pub fn pick<T: Clone>(all: &[T], r: &mut Random) -> T {
     all[r.below(all.len() as u64) as usize].clone()
 }

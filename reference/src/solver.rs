@@ -1,4 +1,4 @@
-//! The questions on which the whole solver is compared: a fixed list, and any number of fresh ones.
+//! The questions on which the whole solver is compared: a fixed list, and any number of random ones.
 
 mod damage;
 mod flights;
@@ -17,19 +17,19 @@ type Slot = [u8; QUESTION_SIZE];
 /// The size of the short slot at the end of the list.
 const SHORT: usize = 41;
 
-/// The slots of the list, and a short one behind them.
+/// Returns the slots of the list, with the short one at the end.
 pub fn questions() -> Vec<u8> {
     let all = slots();
     let short = &all[0][..SHORT];
     [all.as_flattened(), short].concat()
 }
 
-/// The records of the list's slots.
+/// Returns the records for the slots of the list.
 pub fn answers() -> Vec<u8> {
     replies(&questions()).flatten().collect()
 }
 
-/// The slots of the list but the short one.
+/// Returns the slots of the list without the short one.
 pub(crate) fn slots() -> Vec<Slot> {
     let mut r = Random::new(12);
     let mut sound = every_revolution(&mut r);
@@ -41,8 +41,8 @@ pub(crate) fn slots() -> Vec<Slot> {
     all
 }
 
-/// Every number of revolutions with both ways, each with every kind of flight; more of them without
-/// revolutions.
+/// Returns questions for every number of revolutions and both ways, each with every kind of flight. There
+/// are more of them without revolutions.
 fn every_revolution(r: &mut Random) -> Vec<Question> {
     let mut all = Vec::new();
     for m in 0..=MOST_REVOLUTIONS {
@@ -57,7 +57,7 @@ fn every_revolution(r: &mut Random) -> Vec<Question> {
     all
 }
 
-/// Fresh questions: flights of every kind, some with a damaged byte.
+/// Returns `n` random questions: flights of every kind, some with a damaged byte.
 pub fn random(n: u64, seed: u64) -> impl Iterator<Item = Slot> {
     let mut r = Random::new(seed);
     (0..n).map(move |_| {
@@ -75,8 +75,8 @@ pub fn random(n: u64, seed: u64) -> impl Iterator<Item = Slot> {
     })
 }
 
-/// Fresh questions as missions ask them: around the Earth, to the Moon and around the Sun, in moderate
-/// times, half of them with revolutions.
+/// Returns `n` random questions as missions ask them: around the Earth, to the Moon and around the Sun,
+/// with moderate times. Half of them are drawn without revolutions, the others with 0 to 16.
 pub fn missions(n: u64, seed: u64) -> impl Iterator<Item = Slot> {
     let mut r = Random::new(seed);
     (0..n).map(move |_| {

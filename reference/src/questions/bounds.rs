@@ -1,11 +1,11 @@
-//! The ends of the whole-number fields, the size and the room.
+//! The limits of the whole-number fields, of the size and of the room.
 
 use super::{document, earth, Case};
 use crate::entrance::ROOM;
 use crate::random::Random;
 use crate::wire::{put, Question, JOB, KIND, LENGTH, QUESTION_SIZE, REVISION, REVOLUTIONS, SPARE, WAY};
 
-/// Each field of the head with its bounds and with numbers that show a byte left out or swapped.
+/// Returns each field of the head at its limits, and with numbers that reveal a byte that is left out or swapped.
 pub fn fields() -> Vec<Case> {
     let mut edits: Vec<(usize, Vec<u8>)> = Vec::new();
     for v in [0, 1, 77, 78, 79, 82, 78 << 8, 78 << 24, 78 | 1 << 8, 78 | 1 << 16, 78 | 1 << 31, u32::MAX] {
@@ -35,7 +35,7 @@ fn edited(base: &Question, at: usize, field: &[u8]) -> Case {
     Case::new(&bytes, ROOM as u16)
 }
 
-/// A sound question cut short or followed by zeros or by noise, of every size up to 120 bytes.
+/// Returns a valid question of every size up to 120 bytes: cut short, or followed by zeros or by random bytes.
 pub fn sizes(r: &mut Random) -> Vec<Case> {
     let mut all = Vec::new();
     for size in 0..=super::LONGEST {
@@ -48,7 +48,7 @@ pub fn sizes(r: &mut Random) -> Vec<Case> {
     all
 }
 
-/// Sound questions, and ones of 17 and 65535 revolutions, with each bound of the room.
+/// Returns valid questions, and the same ones with 17 and 65535 revolutions, for rooms at and around the limits.
 pub fn rooms(sound: &[Question]) -> Vec<Case> {
     let mut all = Vec::new();
     for base in sound.iter().take(8) {

@@ -1,11 +1,11 @@
-//! Sound questions with damaged bytes, and bytes of no pattern.
+//! Valid questions with damaged bytes, and random bytes.
 
 use super::{document, enough, Case, LONGEST};
 use crate::entrance::ROOM;
 use crate::random::Random;
 use crate::wire::{put, Question, FLOATS, QUESTION_SIZE};
 
-/// Every bit of the head turned, then one or two bytes anywhere replaced.
+/// Returns a question with each bit of the head flipped, then valid questions with one or two random bytes replaced.
 pub fn damaged(sound: &[Question], r: &mut Random) -> Vec<Case> {
     let mut all = Vec::new();
     for bit in 0..8 * FLOATS {
@@ -23,7 +23,7 @@ pub fn damaged(sound: &[Question], r: &mut Random) -> Vec<Case> {
     all
 }
 
-/// Random bytes of any size, of the right size, and behind a sound head.
+/// Returns random bytes of any size, of the right size, and after a valid head.
 pub fn noise(r: &mut Random) -> Vec<Case> {
     let mut all = Vec::new();
     for i in 0..600 {

@@ -1,4 +1,4 @@
-//! Questions on both sides of the place where a verdict changes, as close to it as floats get.
+//! Questions on both sides of the point where a verdict changes, as close to it as floats allow.
 
 use super::document;
 use super::shapes::{between, power};
@@ -6,8 +6,9 @@ use crate::entrance::{judge, ROOM};
 use crate::random::Random;
 use crate::wire::{Question, Vector};
 
-/// Halves the floats between two positive values of one number until the verdict changes from one
-/// to the next; gives these two and their outer neighbours. None where the verdicts are the same.
+/// Bisects the floats between two positive values of one number until the verdict changes between two
+/// neighbouring floats. Returns the questions for these two and for their outer neighbours. Returns none if
+/// the verdicts at both values are the same.
 pub fn edge(from: f64, to: f64, make: impl Fn(f64) -> Question) -> Vec<Question> {
     let at = |b: u64| make(f64::from_bits(b));
     let number = |b: u64| judge(&at(b).write(), ROOM).err();
@@ -27,8 +28,8 @@ pub fn edge(from: f64, to: f64, make: impl Fn(f64) -> Question) -> Vec<Question>
     [a.saturating_sub(1), a, b, b + 1].map(at).into()
 }
 
-/// Radii at 1 and at 2^40 of either position: along each axis, in each plane of axes, and in all
-/// three components.
+/// Returns questions at the limits of the radius, 1 and 2^40, for either position: along each axis, in each
+/// plane of two axes, and with all three components.
 pub fn radii(r: &mut Random) -> Vec<Question> {
     let mut all = Vec::new();
     for axis in 0..3 {
@@ -48,12 +49,12 @@ pub fn radii(r: &mut Random) -> Vec<Question> {
     all
 }
 
-/// The components moved on by `by` axes.
+/// Shifts the components cyclically by `by` axes.
 fn turn(v: Vector, by: usize) -> Vector {
     std::array::from_fn(|i| v[(i + 3 - by) % 3])
 }
 
-/// `position` as the first or the second of a question, beside `other`.
+/// Returns a question with `position` as its first or second position, and `other` as the other one.
 fn pair(position: Vector, other: Vector, second: bool) -> Question {
     let (position1, position2) = if second { (other, position) } else { (position, other) };
     Question { position1, position2, ..document() }

@@ -5,8 +5,8 @@ use super::{document, Case};
 use crate::entrance::ROOM;
 use crate::wire::{Question, Vector};
 
-/// Every choice among the faults of form, pull, time, revolutions and room, with positions of every
-/// verdict.
+/// Returns questions with every combination of faults in form, mu, time, revolutions and room, for
+/// positions of every verdict.
 pub fn faults() -> Vec<Case> {
     let mut all = Vec::new();
     for (position1, position2) in positions() {
@@ -18,7 +18,8 @@ pub fn faults() -> Vec<Case> {
     all
 }
 
-/// Two positions for each of: acceptance, and numbers 2 (two sorts), 3 (two), 8 (two), 9 and 10.
+/// Returns pairs of positions: one pair that is accepted, two each with numbers 2, 3 and 8, and one each
+/// with numbers 9 and 10.
 fn positions() -> Vec<(Vector, Vector)> {
     let near = [4.0, 0.0, 0.0];
     let far = [power(40), 0.0, 0.0];
@@ -35,7 +36,7 @@ fn positions() -> Vec<(Vector, Vector)> {
     ]
 }
 
-/// The bits of `choice` say which faults the question has.
+/// Returns the question with the faults that the bits of `choice` select.
 fn faulty(base: Question, choice: u32) -> Case {
     let has = |bit: u32| choice >> bit & 1 == 1;
     let mut question = base;

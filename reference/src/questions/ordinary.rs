@@ -1,4 +1,4 @@
-//! Questions as users ask them: all revolutions, both ways, many geometries.
+//! Questions as users ask them: every number of revolutions, both ways, many geometries.
 
 use super::shapes::{at_angle, between, direction, frame, power, scale, spread, AXES};
 use super::{document, earth};
@@ -6,15 +6,15 @@ use crate::entrance::MOST_REVOLUTIONS;
 use crate::random::Random;
 use crate::wire::{Question, Vector};
 
-/// Radii in km and times in s, each from the first to the second, around a body.
+/// A body, with the ranges of the radii in km and of the times in s around it.
 struct Body {
     mu: f64,
     radii: [f64; 2],
     times: [f64; 2],
 }
 
-/// Low orbits to the geostationary one around the Earth, the planets around the Sun, and numbers
-/// near 1.
+/// The Earth, from low orbits to the geostationary one; the Sun, with the distances of the planets; and a
+/// body with numbers near 1.
 const BODIES: [Body; 3] = [
     Body { mu: 398600.4418, radii: [6578.0, 42164.0], times: [60.0, 400000.0] },
     Body { mu: 132712440018.0, radii: [5.8e7, 4.5e9], times: [1e6, 1e9] },
@@ -35,7 +35,7 @@ pub fn questions(r: &mut Random) -> Vec<Question> {
     all
 }
 
-/// Every number of revolutions with both ways.
+/// Returns every number of revolutions with both ways.
 fn ways() -> Vec<(u16, u8)> {
     (0..=MOST_REVOLUTIONS).flat_map(|m| [(m, 0), (m, 1)]).collect()
 }
@@ -48,7 +48,7 @@ fn asked(position1: Vector, position2: Vector, mu: f64, time: f64) -> Question {
     Question { position1, position2, mu, time, ..document() }
 }
 
-/// Two directions of no pattern.
+/// Draws a question around the body with two random directions.
 fn around(body: &Body, r: &mut Random) -> Question {
     let [low, high] = body.radii;
     let (r1, r2) = (between(r, low, high), between(r, low, high));
@@ -56,7 +56,7 @@ fn around(body: &Body, r: &mut Random) -> Question {
     asked(p1, p2, body.mu, between(r, body.times[0], body.times[1]))
 }
 
-/// A transfer by some angle around the Earth, in the plane of x and y half of the times.
+/// Draws a transfer by a random angle around the Earth, half of the time in the plane of x and y.
 fn planar(r: &mut Random) -> Question {
     let plane = if r.below(2) == 0 { AXES } else { frame(r) };
     let (r1, r2) = (between(r, 6578.0, 42164.0), between(r, 6578.0, 42164.0));
@@ -64,7 +64,7 @@ fn planar(r: &mut Random) -> Question {
     asked(at_angle(plane, r1, 0.0), at_angle(plane, r2, t), 398600.4418, between(r, 60.0, 1e6))
 }
 
-/// Radii, pull and time anywhere in their ranges.
+/// Draws radii, mu and time from anywhere in their ranges.
 fn anywhere(r: &mut Random) -> Question {
     let low = r.below(36) as i32;
     let (r1, r2) = (spread(r, low, low + 4), spread(r, low, low + 4));
@@ -72,7 +72,7 @@ fn anywhere(r: &mut Random) -> Question {
     asked(p1, p2, spread(r, 0, 60), spread(r, 0, 40))
 }
 
-/// Two of the axes, either end, zeros of either sign for the rest.
+/// Draws positions on two different axes, on either side of the origin. Their other components are zeros of either sign.
 fn along_axes(r: &mut Random) -> Question {
     let first = r.below(3) as usize;
     let second = (first + 1 + r.below(2) as usize) % 3;

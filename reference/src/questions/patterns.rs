@@ -1,4 +1,4 @@
-//! Every end of a range, with its neighbours, and every odd pattern, in each of the eight floats.
+//! The ends of every range with their neighbours, and special bit patterns, in each of the eight floats.
 
 use super::shapes::power;
 use super::{document, earth, Case};
@@ -23,7 +23,7 @@ pub fn floats() -> Vec<Case> {
     all
 }
 
-/// The patterns, of both signs.
+/// Returns the patterns with both signs.
 fn patterns() -> Vec<u64> {
     let ends = [1.0, power(20), power(40), power(60)].map(f64::to_bits);
     let near = ends.into_iter().flat_map(|b| [b - 1, b, b + 1]);

@@ -1,22 +1,22 @@
-//! Numbers, directions and angles for questions, from sums, products, quotients and roots alone:
-//! their bits don't depend on the machine.
+//! Numbers, directions and angles for questions. They use only sums, differences, products, quotients and
+//! square roots, so their bits don't depend on the machine.
 
 use crate::random::Random;
 use crate::triangle::{cross, square, unit};
 use crate::wire::Vector;
 
-/// 2^e, for a normal number.
+/// Returns 2^e, for an e that gives a normal number.
 pub fn power(e: i32) -> f64 {
     f64::from_bits(((1023 + e) as u64) << 52)
 }
 
-/// A number from 2^low to below 2^high, each exponent as likely as another.
+/// Draws a number from 2^low to below 2^high. All exponents are equally likely.
 pub fn spread(r: &mut Random, low: i32, high: i32) -> f64 {
     let e = low + r.below((high - low) as u64) as i32;
     power(e) * (1.0 + r.fraction())
 }
 
-/// A number between two.
+/// Draws a number between two values.
 pub fn between(r: &mut Random, low: f64, high: f64) -> f64 {
     low + (high - low) * r.fraction()
 }
@@ -29,10 +29,10 @@ pub fn scale(v: Vector, by: f64) -> Vector {
 #[derive(Clone, Copy, Debug)]
 pub struct Frame(pub Vector, pub Vector);
 
-/// The frame of the x and y axes, where positions have few digits.
+/// The frame of the x and y axes, in which positions have few digits.
 pub const AXES: Frame = Frame([1.0, 0.0, 0.0], [0.0, 1.0, 0.0]);
 
-/// A unit vector of no pattern.
+/// Draws a random unit vector.
 pub fn direction(r: &mut Random) -> Vector {
     loop {
         let v = [between(r, -1.0, 1.0), between(r, -1.0, 1.0), between(r, -1.0, 1.0)];
@@ -42,7 +42,7 @@ pub fn direction(r: &mut Random) -> Vector {
     }
 }
 
-/// A frame of no pattern.
+/// Draws a random frame.
 pub fn frame(r: &mut Random) -> Frame {
     loop {
         let (first, other) = (direction(r), direction(r));
@@ -53,8 +53,8 @@ pub fn frame(r: &mut Random) -> Frame {
     }
 }
 
-/// The position at `radius` and at the angle from the frame's first vector whose half has the
-/// tangent `t`.
+/// Returns the position at the distance `radius` and at an angle from the frame's first vector. `t` is the
+/// tangent of half that angle.
 pub fn at_angle(frame: Frame, radius: f64, t: f64) -> Vector {
     let (cosine, sine) = ((1.0 - t * t) / (1.0 + t * t), 2.0 * t / (1.0 + t * t));
     std::array::from_fn(|i| radius * (cosine * frame.0[i] + sine * frame.1[i]))

@@ -1,4 +1,4 @@
-//! The list holds every verdict, and the document's worked cases come out right.
+//! The list contains every verdict, and 01's worked cases get the right verdicts.
 
 use super::*;
 use crate::entrance::judge;
@@ -44,13 +44,13 @@ fn the_document_s_cases() {
     assert!((wanted - 0.634).abs() < 0.001, "{wanted}");
 }
 
-/// The questions of the list that numbers 1 to 7 let pass.
+/// Returns the questions of the list that pass the checks for numbers 1 to 7.
 fn past_seven() -> Vec<Question> {
     let pass = |case: &Case| judge(&case.bytes, case.room.into()).err().is_none_or(|n| n > 7);
     cases().iter().filter(|case| pass(case)).map(|case| Question::read(&case.bytes).unwrap()).collect()
 }
 
-/// Counts the questions past number 7 for which `holds` of c, s, r1 and r2.
+/// Counts the questions for which `holds` is true of c, s, r1 and r2.
 fn count(all: &[Question], holds: impl Fn(f64, f64, f64, f64) -> bool) -> usize {
     let measure = |q: &&Question| {
         let (r1, r2) = (square(q.position1).sqrt(), square(q.position2).sqrt());

@@ -1,4 +1,4 @@
-//! Triangles close to having no plane, a short chord or no height: numbers 8, 9 and 10.
+//! Triangles that nearly have no plane, too short a chord or no height: numbers 8, 9 and 10.
 
 use super::earth;
 use super::edges::edge;
@@ -18,7 +18,7 @@ fn some_frame(r: &mut Random) -> Frame {
     }
 }
 
-/// No plane: equal, collinear and opposite positions, and the edge of number 8.
+/// Returns equal, collinear and opposite positions, which have no plane, and questions at the edge of number 8.
 pub fn planes(r: &mut Random) -> Vec<Question> {
     let mut all = vec![asked([1.0, 0.0, 0.0], [2.0, 0.0, 0.0], 0)];
     for factor in [1.0, 2.0, -1.0, -2.0, 0.5, 3.0, -1.1, 1000.0, 1.0 + power(-12)] {
@@ -36,7 +36,7 @@ pub fn planes(r: &mut Random) -> Vec<Question> {
     all
 }
 
-/// The angle, from nothing or from a straight one, at which the plane begins.
+/// Returns questions around the angle at which number 8 stops applying, near 0 or near a straight angle.
 fn plane_edge(r: &mut Random, way: u8) -> Vec<Question> {
     let f = some_frame(r);
     let low = r.below(30) as i32;
@@ -46,7 +46,7 @@ fn plane_edge(r: &mut Random, way: u8) -> Vec<Question> {
     edge(power(-24), power(-18), |t| asked(p1, scale(at_angle(f, r2, t), side), way))
 }
 
-/// Powers of two, for which hh can equal its bound exactly.
+/// Returns questions with powers of two, for which hh can equal its bound exactly.
 fn plane_ties() -> Vec<Question> {
     let at = |a: f64, x: f64, y: f64| asked([a, 0.0, 0.0], [x, y, 0.0], 0);
     let pairs = [(1.0, 2.0), (1.0, power(20)), (power(10), power(12)), (power(3), -power(9))];
@@ -56,7 +56,8 @@ fn plane_ties() -> Vec<Question> {
         .collect()
 }
 
-/// Short chords, and the edge of number 9 by the angle and by the second radius.
+/// Returns questions with short chords, and questions at the edge of number 9, found by varying the angle
+/// and the second radius.
 pub fn chords(r: &mut Random) -> Vec<Question> {
     let mut all = Vec::new();
     for i in 0..50 {
@@ -75,7 +76,7 @@ pub fn chords(r: &mut Random) -> Vec<Question> {
     all
 }
 
-/// A small and a large radius, of which either is the first.
+/// Draws a small and a large radius, in either order.
 fn uneven(r: &mut Random, low: i32) -> (f64, f64) {
     let (small, large) = (between(r, 1.0, 4.0), spread(r, low, 40));
     if r.below(2) == 0 {
@@ -85,7 +86,8 @@ fn uneven(r: &mut Random, low: i32) -> (f64, f64) {
     }
 }
 
-/// Flat triangles: radii of very different size at a small angle, and the edges of number 10.
+/// Returns flat triangles, which have radii of very different size at a small angle, and questions at the
+/// edges of number 10.
 pub fn flats(r: &mut Random) -> Vec<Question> {
     let mut all = Vec::new();
     for way in 0..2 {
@@ -106,7 +108,7 @@ pub fn flats(r: &mut Random) -> Vec<Question> {
     all
 }
 
-/// Radii of different size at nearly a straight angle, where 1 − c/s rounds to 0 or below.
+/// Returns positions with different radii at nearly a straight angle, where 1 − c/s can round to 0 or below.
 pub fn opposites(r: &mut Random) -> Vec<Question> {
     let one = |way: u8, r: &mut Random| {
         let f = some_frame(r);

@@ -4,7 +4,7 @@ use super::Slot;
 use crate::random::Random;
 use crate::wire::{Question, FLOATS, QUESTION_SIZE};
 
-/// Half of the times in the head.
+/// Replaces one random byte: half of the time one of the head, else any byte.
 pub fn one_byte(q: &Question, r: &mut Random) -> Slot {
     let mut bytes = q.write();
     let range = if r.below(2) == 0 { FLOATS } else { QUESTION_SIZE };

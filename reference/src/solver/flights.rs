@@ -1,12 +1,11 @@
-//! Two positions and a pull as users ask about them, and as the ranges allow.
+//! Questions with positions and mu as users choose them, and with values from the whole of the allowed ranges.
 
 use crate::questions::document;
 use crate::questions::shapes::{at_angle, between, direction, frame, power, scale, spread, Frame, AXES};
 use crate::random::Random;
 use crate::wire::{Question, Vector};
 
-/// The kinds of flights. Thin ones have a triangle close to a line, uneven ones radii of very different
-/// size.
+/// The kinds of flights. `Thin` ones have a triangle close to a line, and `Uneven` ones have radii of very different size.
 #[derive(Clone, Copy, Debug, PartialEq, Eq)]
 pub enum Kind {
     Earth,
@@ -27,11 +26,11 @@ pub const MISSIONS: [Kind; 3] = [Kind::Earth, Kind::Moon, Kind::Sun];
 const EARTH: f64 = 398600.4418;
 const SUN: f64 = 132712440018.0;
 
-/// Radii in km, from the first to the second: low and navigation orbits, the geostationary one.
+/// The ranges of radii in km of low orbits, of navigation orbits and of the geostationary orbit.
 const ORBITS: [[f64; 2]; 3] = [[6578.0, 7378.0], [19000.0, 29600.0], [42164.0, 42164.0]];
 const LOW: [f64; 2] = ORBITS[0];
 const MOON: [f64; 2] = [356400.0, 406700.0];
-/// Mercury to Saturn.
+/// The ranges of radii in km of the planets from Mercury to Saturn.
 const PLANETS: [[f64; 2]; 6] = [
     [4.60e7, 6.98e7],
     [1.075e8, 1.089e8],
@@ -41,7 +40,7 @@ const PLANETS: [[f64; 2]; 6] = [
     [1.3536e9, 1.5130e9],
 ];
 
-/// A question of a kind, with a time of 1.
+/// Draws a question of the given kind, with a time of 1.
 pub fn flight(kind: Kind, revolutions: u16, way: u8, r: &mut Random) -> Question {
     let (mu, [position1, position2]) = match kind {
         Kind::Earth => (EARTH, turned(some(&ORBITS, r), some(&ORBITS, r), r)),
@@ -61,7 +60,7 @@ fn some(ranges: &[[f64; 2]], r: &mut Random) -> [f64; 2] {
     ranges[r.below(ranges.len() as u64) as usize]
 }
 
-/// The positions in either order.
+/// Returns the positions in random order.
 fn either([a, b]: [Vector; 2], r: &mut Random) -> [Vector; 2] {
     if r.below(2) == 0 {
         [a, b]
@@ -78,7 +77,7 @@ fn plane(r: &mut Random) -> Frame {
     }
 }
 
-/// Radii from two ranges at any angle up to a straight one.
+/// Draws radii from two ranges, at an angle between about 2 and 178 degrees.
 fn turned(first: [f64; 2], second: [f64; 2], r: &mut Random) -> [Vector; 2] {
     let plane = plane(r);
     let (r1, r2) = (between(r, first[0], first[1]), between(r, second[0], second[1]));
@@ -87,14 +86,14 @@ fn turned(first: [f64; 2], second: [f64; 2], r: &mut Random) -> [Vector; 2] {
     [at_angle(plane, r1, 0.0), at_angle(plane, r2, half_tangent)]
 }
 
-/// Radii anywhere in their range, up to sixteen times as large as each other.
+/// Draws radii from anywhere in their range, less than a factor of 16 apart.
 fn anywhere(r: &mut Random) -> [Vector; 2] {
     let low = r.below(36) as i32;
     let (r1, r2) = (spread(r, low, low + 4), spread(r, low, low + 4));
     [scale(direction(r), r1), scale(direction(r), r2)]
 }
 
-/// Two of the axes, either end, zeros of either sign for the rest.
+/// Draws positions on two different axes, on either side of the origin. Their other components are zeros of either sign.
 fn along_axes(r: &mut Random) -> [Vector; 2] {
     let first = r.below(3) as usize;
     let second = (first + 1 + r.below(2) as usize) % 3;
@@ -105,7 +104,7 @@ fn along_axes(r: &mut Random) -> [Vector; 2] {
     })
 }
 
-/// Nearly one direction or nearly opposite ones, often short of a plane or with too short a chord.
+/// Draws positions in nearly the same or nearly opposite directions. Often they have no plane or too short a chord.
 fn thin(r: &mut Random) -> [Vector; 2] {
     let (plane, t) = (plane(r), spread(r, -22, -4));
     let (r1, r2) = (between(r, 6578.0, 42164.0), between(r, 6578.0, 42164.0));
@@ -114,7 +113,7 @@ fn thin(r: &mut Random) -> [Vector; 2] {
     [at_angle(plane, r1, 0.0), at_angle(plane, r2, half_tangent)]
 }
 
-/// Far apart in size, at any angle or nearly flat.
+/// Draws radii of very different size, at angles from nearly 0 to nearly straight.
 fn uneven(r: &mut Random) -> [Vector; 2] {
     let low = r.below(10) as i32;
     let (r1, r2) = (spread(r, low, low + 4), spread(r, low + 6, low + 30));

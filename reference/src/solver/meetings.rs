@@ -1,5 +1,6 @@
-//! Wanted times that meet the time of a place to the bit, or pass it by one float. Times are
-//! T* itself there: the pull is half of the cube of s, scaled by a power of four.
+//! Questions whose wanted time equals the time of a place bit for bit, or is the float next to it. In
+//! these, mu is half of the cube of s times a power of four, so that T* is the question's time times a
+//! power of two, without rounding.
 
 use super::flights::{flight, Kind};
 use super::timing::{at, curve, place, problem};
@@ -9,10 +10,10 @@ use crate::random::Random;
 use crate::time::SPACING;
 use crate::wire::Question;
 
-/// A second is worth 2^-SHIFT, so that no wanted time takes less than a second.
+/// T* is the question's time in seconds times 2^-SHIFT, so that no question's time is below one second.
 const SHIFT: i32 = 8;
 
-/// Which time is met.
+/// Where the wanted time comes from. See `time` for each sort.
 #[derive(Clone, Copy, Debug, PartialEq, Eq)]
 pub enum Sort {
     Station,
@@ -27,7 +28,8 @@ pub enum Sort {
 pub const SORTS: [Sort; 7] =
     [Sort::Station, Sort::Least, Sort::First, Sort::Last, Sort::Place, Sort::Middle, Sort::Tie];
 
-/// Each sort for every number of revolutions, met, and passed by one float on either side of some.
+/// Returns questions of each sort for every number of revolutions. Except for ties, each is asked with the
+/// time itself and with a float next to it.
 pub fn questions(r: &mut Random) -> Vec<Question> {
     let mut all = Vec::new();
     for m in 0..=MOST_REVOLUTIONS {
@@ -42,7 +44,8 @@ pub fn questions(r: &mut Random) -> Vec<Question> {
     all
 }
 
-/// The flight with a time of some sort; where its pull can't be scaled so, another flight's.
+/// Returns the flight with a time of a random sort. If that isn't possible, for example because the scaled
+/// mu is out of range, uses another flight. If that fails too, returns the question unchanged.
 pub fn met(q: Question, r: &mut Random) -> Question {
     let sort = SORTS[r.below(SORTS.len() as u64) as usize];
     let by = r.below(3) as i64 - 1;
@@ -50,7 +53,8 @@ pub fn met(q: Question, r: &mut Random) -> Question {
     meeting(q, sort, by, r).or_else(|| meeting(other, sort, by, r)).unwrap_or(q)
 }
 
-/// The flight with such a pull and the time of a sort, moved on by some floats.
+/// Returns the flight with the scaled mu and a time of the given sort, moved by `by` floats. Returns None
+/// if the flight is refused or doesn't have that time.
 fn meeting(q: Question, sort: Sort, by: i64, r: &mut Random) -> Option<Question> {
     let s = problem(&q)?.triangle.semiperimeter;
     let mu = ((s * s) * s) / 2.0 * power(-2 * SHIFT);
@@ -60,8 +64,8 @@ fn meeting(q: Question, sort: Sort, by: i64, r: &mut Random) -> Option<Question>
     Some(Question { time: moved * power(SHIFT), ..scaled })
 }
 
-/// The time of a station, of the least, the first or the last of them, of any place, of the middle of two
-/// stations, or just between two places.
+/// Returns the time of a random station, the least of all stations' times, the time of the first or the last
+/// station, of a random place, of the middle of two stations, or a time halfway between those of two places.
 fn time(p: &Problem, sort: Sort, r: &mut Random) -> Option<f64> {
     let times = curve(p);
     let i = r.below(times.len() as u64 - 1) as usize;
@@ -77,7 +81,7 @@ fn time(p: &Problem, sort: Sort, r: &mut Random) -> Option<f64> {
     }
 }
 
-/// Just between the times of two places that are one apart, an even number of floats from each other.
+/// Returns the float halfway between the times of two neighbouring places. These times are an even number of floats apart.
 fn tie(p: &Problem, k: i64) -> Option<f64> {
     let pair = |k: i64| Some([at(p, k)?.to_bits(), at(p, k + 1)?.to_bits()]);
     let even = |[a, b]: &[u64; 2]| a != b && a % 2 == b % 2;

@@ -1,4 +1,4 @@
-//! Questions that are refused: every number that the entrance gives to a whole slot, and 11.
+//! Questions that are refused: with every number that the entrance checks can give to a whole slot, and with number 11.
 
 use super::flights::{flight, KINDS};
 use super::timing::{curve, problem, second};
@@ -8,10 +8,10 @@ use crate::questions::{self, document, earth};
 use crate::random::Random;
 use crate::wire::{Question, QUESTION_SIZE};
 
-/// How many of each number are taken from the entrance's own list.
+/// How many questions of each number are taken from the list for the entrance checks.
 const EACH: usize = 12;
 
-/// The document's question first, then each way to number 1, then some of every number.
+/// Returns 01's worked question, then questions for each cause of number 1, then some of every number.
 pub fn every_number(r: &mut Random) -> Vec<Slot> {
     let mut all: Vec<Slot> = vec![document().write()];
     all.extend(forms().iter().map(Question::write));
@@ -28,7 +28,7 @@ fn slot(bytes: &[u8]) -> Option<Slot> {
     bytes.try_into().ok()
 }
 
-/// Number 1 by each field, alone and together with faults that are checked later.
+/// Returns questions with number 1 because of each field, alone and together with faults that are checked later.
 fn forms() -> Vec<Question> {
     let mut all = Vec::new();
     for base in [earth(), Question { mu: 0.5, ..earth() }, Question { revolutions: 17, ..document() }] {
@@ -41,7 +41,8 @@ fn forms() -> Vec<Question> {
     all
 }
 
-/// Times a little too short or too long for every number of revolutions.
+/// Returns questions for every number of revolutions whose time is shorter than the least or longer than
+/// the greatest time of the stations, by a little or by much.
 pub fn without_time(r: &mut Random) -> Vec<Question> {
     let mut all = Vec::new();
     for m in 0..=MOST_REVOLUTIONS {

@@ -1,4 +1,4 @@
-//! The list is as long and as varied as asked, and costs the proved program little.
+//! The list is as long and as varied as the comparison needs, and takes the proved program little time.
 
 use super::*;
 use crate::entrance::{judge, ROOM};
@@ -9,7 +9,7 @@ use crate::time::time_at;
 use std::collections::{BTreeMap, BTreeSet};
 use std::sync::OnceLock;
 
-/// Every whole slot with its record, worked out once for all tests.
+/// Returns every whole slot with its record, computed once for all tests.
 fn rows() -> &'static [(Slot, Record)] {
     static ROWS: OnceLock<Vec<(Slot, Record)>> = OnceLock::new();
     ROWS.get_or_init(|| slots().into_iter().map(|s| (s, Record::reply(&s))).collect())
@@ -43,7 +43,7 @@ fn every_number_of_revolutions_both_ways() {
     assert_eq!(pairs.len(), 34);
 }
 
-/// At 12 ms without revolutions and 5.5 ms with some, for each question past the entrance.
+/// Assumes 12 ms for each accepted question without revolutions, and 5.5 ms for each one with revolutions.
 #[test]
 fn the_proved_program_needs_less_than_eight_seconds() {
     let problems = rows().iter().filter_map(|(slot, _)| judge(slot, ROOM).ok());
@@ -52,8 +52,8 @@ fn the_proved_program_needs_less_than_eight_seconds() {
     assert!(cost < 8.0, "{cost}");
 }
 
-/// How many questions meet a station's time to the bit, and how many entries lie just between two
-/// places.
+/// Counts the questions whose wanted time equals a station's time, the entries whose ends are equally near
+/// to the wanted time, and the entries whose upper end is chosen.
 #[test]
 fn stations_are_met_and_ends_tie() {
     let (mut met, mut ties, mut upper) = (0, 0, 0);
@@ -75,7 +75,7 @@ fn every_halving_ends_at_width_1() {
     assert!(rows().iter().flat_map(|(_, record)| entries(record)).all(|e| e.halvings == 20));
 }
 
-/// A lambda that the entrance lets pass (c/s isn't below 2^-10), often among the last of them.
+/// Draws a lambda that the entrance accepts (c/s isn't below 2^-10), often close to the limit.
 fn accepted_lambda(i: u64, r: &mut Random) -> f64 {
     let edge = (1.0 - 1.0 / 1024.0f64).sqrt();
     let size = match i % 3 {
@@ -86,8 +86,8 @@ fn accepted_lambda(i: u64, r: &mut Random) -> f64 {
     [size, -size][r.below(2) as usize]
 }
 
-/// No question reaches numbers 12 and 13 or three entries: every station has a time, and from one
-/// station to the next the times fall, then rise. Number 14 needs sizes that the ranges exclude.
+/// Shows on samples why no question reaches number 12 or 13 or has three entries: every station has a time, and from
+/// one station to the next the times first fall and then rise. Number 14 would need sizes that the ranges exclude.
 #[test]
 fn no_void_station_and_at_most_two_crossings() {
     let mut r = Random::new(13);

@@ -1,4 +1,4 @@
-//! Times for a flight: ones that some place takes, and ones that may have no answer.
+//! Times for a flight: times that a place takes, and times that may have no answer.
 
 use crate::entrance::{judge, Problem, ROOM};
 use crate::questions::shapes::{between, spread};
@@ -8,27 +8,27 @@ use crate::time::{time_at, HIGHEST, HIGHEST_TURNING, LOWEST, PARABOLA};
 use crate::triangle::wanted_time;
 use crate::wire::Question;
 
-/// The problem of a flight, whatever its time; none where its positions are refused.
+/// Returns the problem of a flight, whatever its time, or None if it is refused for another reason.
 pub fn problem(q: &Question) -> Option<Problem> {
     judge(&Question { time: 1.0, ..*q }.write(), ROOM).ok()
 }
 
-/// T* of one second.
+/// Returns T* of one second.
 pub fn second(p: &Problem) -> f64 {
     wanted_time(p.mu, p.triangle.semiperimeter, 1.0)
 }
 
-/// The time of the problem's flight at a place.
+/// Returns the time of the problem's flight at a place, or None if the place is void.
 pub fn at(p: &Problem, k: i64) -> Option<f64> {
     time_at(p.triangle.lambda, k, p.revolutions)
 }
 
-/// The times of the problem's stations.
+/// Returns the times of the problem's stations.
 pub fn curve(p: &Problem) -> Vec<Option<f64>> {
     stations(p.revolutions).map(|k| at(p, k)).collect()
 }
 
-/// A place, often of an ellipse, sometimes close to the end of the range.
+/// Draws a place, often of an ellipse, sometimes close to an end of the range.
 pub fn place(m: u16, r: &mut Random) -> i64 {
     let highest = if m == 0 && r.below(3) == 0 { HIGHEST } else { HIGHEST_TURNING };
     match r.below(8) {
@@ -38,7 +38,7 @@ pub fn place(m: u16, r: &mut Random) -> i64 {
     }
 }
 
-/// The time that a place takes or a moderate one, mostly; else one from seconds to centuries.
+/// Sets the time, mostly to that of a place or to a moderate one, else to any from 8 seconds to more than a century.
 pub fn anyhow(q: Question, r: &mut Random) -> Question {
     let free = spread(r, 3, 32);
     match r.below(6) {
@@ -52,8 +52,8 @@ pub fn anyhow(q: Question, r: &mut Random) -> Question {
     }
 }
 
-/// A time as missions have it, without regard to the places: T* = π is the period of the smallest
-/// ellipse, and each revolution gets up to two of them.
+/// Sets a time that is usual for missions, without regard to the places. T* = π is the period of the
+/// smallest ellipse. The time is from M + 0.3 to 2·M + 2 of these periods.
 pub fn moderate(q: Question, r: &mut Random) -> Question {
     let whole = f64::from(q.revolutions);
     let periods = between(r, whole + 0.3, 2.0 * whole + 2.0);
