@@ -1,24 +1,24 @@
-//! Angles, circular and hyperbolic, from their cosines, to about 300 bits.
+//! Circular and hyperbolic angles from their cosines, to about 300 bits.
 
 use crate::fixed::Fixed;
 use std::sync::OnceLock;
 
-/// Which functions are meant.
+/// Which functions are computed: arctan or artanh.
 #[derive(Clone, Copy, PartialEq, Eq)]
 enum Kind {
     Circular,
     Hyperbolic,
 }
 
-/// π = 16·arctan(1/5) − 4·arctan(1/239) (Machin), worked out once.
+/// Returns π = 16·arctan(1/5) − 4·arctan(1/239) (Machin's formula). The value is computed once and kept.
 pub fn pi() -> Fixed {
     static PI: OnceLock<Fixed> = OnceLock::new();
     let part = |n: u32| arctangent(Fixed::whole(1).over(n), Kind::Circular);
     *PI.get_or_init(|| Fixed::whole(16) * part(5) - Fixed::whole(4) * part(239))
 }
 
-/// The angle from 0 to π of a cosine, through the tangent of its half, (sin ψ)/(1 + cos ψ). Above
-/// π/2 it is π less the angle of the opposite cosine.
+/// Returns the angle ψ from 0 to π that has the given cosine. It is found from the tangent of its half,
+/// (sin ψ)/(1 + cos ψ). If the cosine is negative, the angle is π minus the angle of the negated cosine.
 pub fn arccosine(cosine: Fixed) -> Fixed {
     if cosine.is_negative() {
         return pi() - arccosine(-cosine);
@@ -28,15 +28,16 @@ pub fn arccosine(cosine: Fixed) -> Fixed {
     Fixed::whole(2) * arctangent(sine / (one + cosine), Kind::Circular)
 }
 
-/// The hyperbolic angle of a cosine of at least 1, in the same way.
+/// Returns the hyperbolic angle that has the given cosine, which is at least 1. It is found from the
+/// hyperbolic tangent of its half in the same way.
 pub fn hyperbolic_arccosine(cosine: Fixed) -> Fixed {
     let one = Fixed::whole(1);
     let sine = (cosine * cosine - one).root();
     Fixed::whole(2) * arctangent(sine / (one + cosine), Kind::Hyperbolic)
 }
 
-/// arctan t or artanh t, for t from 0 to 1. The angle is halved eight times by
-/// t/(1 + √(1 ± t²)), so that the series needs few terms.
+/// Returns arctan t or artanh t, for t from 0 to 1 (below 1 for artanh). Replacing t by t/(1 + √(1 ± t²))
+/// halves the angle. Eight of these halvings make t so small that the series needs few terms.
 fn arctangent(t: Fixed, kind: Kind) -> Fixed {
     const HALVINGS: u32 = 8;
     let one = Fixed::whole(1);
@@ -48,7 +49,7 @@ fn arctangent(t: Fixed, kind: Kind) -> Fixed {
     series(t, kind) * Fixed::whole(1 << HALVINGS)
 }
 
-/// t ∓ t³/3 + t⁵/5 ∓ ... until the powers vanish.
+/// Sums t ∓ t³/3 + t⁵/5 ∓ … (minus signs for arctan, plus signs for artanh) until the power of t vanishes.
 fn series(t: Fixed, kind: Kind) -> Fixed {
     let ratio = if kind == Kind::Circular { -(t * t) } else { t * t };
     let (mut power, mut total, mut n) = (t, Fixed::ZERO, 1);
@@ -70,7 +71,7 @@ mod tests {
         (a - b).abs().to_f64() < CLOSE
     }
 
-    /// π's first 63 digits after the point, in groups of nine.
+    /// The first 63 digits of π after the decimal point, in groups of nine.
     #[test]
     fn pi_is_known() {
         let digits = [3u32, 141592653, 589793238, 462643383, 279502884, 197169399, 375105820, 974944592];
@@ -88,7 +89,7 @@ mod tests {
         assert!(close(arccosine(half.root()), pi().over(4)));
     }
 
-    /// arcosh of (e + 1/e)/2 is 1, with e from its own series.
+    /// The hyperbolic angle of (e + 1/e)/2 is 1. The test computes e from its own series.
     #[test]
     fn a_known_hyperbolic_angle() {
         let mut term = Fixed::whole(1);

@@ -1,9 +1,9 @@
-//! Signed fixed-point numbers of 64 whole and 320 fractional bits, to judge f64 results by. Sums
-//! are exact; products, quotients and roots are cut off at the last bit.
+//! Signed fixed-point numbers with 64 whole and 320 fractional bits, for judging f64 results. Sums are
+//! exact. Products, quotients and roots are truncated after the last bit.
 
 use std::ops::{Add, Div, Mul, Neg, Sub};
 
-/// Words of a number, the lowest first, and how many of them are fractional.
+/// The number of words, lowest word first, and how many of them are fractional.
 const WORDS: usize = 6;
 const FRACTION: usize = 5;
 type Words = [u64; WORDS];
@@ -21,7 +21,7 @@ impl Fixed {
         Fixed(words)
     }
 
-    /// A finite float of a size below 2^63; bits below 2^-320 are cut off.
+    /// Converts a finite float of size below 2^63. Bits below 2^-320 are dropped.
     pub fn from_f64(x: f64) -> Fixed {
         let (bits, exponent) = (x.to_bits() & ((1 << 52) - 1), (x.to_bits() >> 52 & 2047) as i32);
         let significand = if exponent == 0 { bits } else { bits | 1 << 52 };
@@ -33,7 +33,7 @@ impl Fixed {
         Fixed(words).signed(x < 0.0)
     }
 
-    /// The number as a float, of the 64 highest bits that aren't zero; good to about 2^-52.
+    /// Converts to a float, from the highest word that isn't zero and the word below it. The result is good to about 2^-52.
     pub fn to_f64(self) -> f64 {
         let words = self.size();
         let top = words.iter().rposition(|&w| w != 0).unwrap_or(0);
@@ -59,7 +59,7 @@ impl Fixed {
         (self - other).is_negative()
     }
 
-    /// The quotient by a small whole number.
+    /// Divides by a small whole number.
     pub fn over(self, n: u32) -> Fixed {
         let mut words = self.size();
         let mut rest = 0u128;
@@ -71,7 +71,7 @@ impl Fixed {
         Fixed(words).signed(self.is_negative())
     }
 
-    /// The root of a number that isn't negative, digit by digit from the highest.
+    /// Returns the square root of a number that isn't negative, one binary digit at a time from the highest.
     pub fn root(self) -> Fixed {
         assert!(!self.is_negative());
         let mut best = [0; WORDS];
@@ -103,7 +103,7 @@ fn set(words: &mut Words, bit: usize) {
     words[bit / 64] |= 1 << (bit % 64);
 }
 
-/// a + b + carry, without what leaves the highest word.
+/// Returns a + b + carry, without the carry out of the highest word.
 fn sum(a: Words, b: Words, mut carry: bool) -> Words {
     std::array::from_fn(|i| {
         let (part, first) = a[i].overflowing_add(b[i]);
@@ -155,7 +155,7 @@ impl Mul for Fixed {
 
 impl Div for Fixed {
     type Output = Fixed;
-    /// Long division, a bit at a time.
+    /// Divides by long division, one bit at a time.
     fn div(self, other: Fixed) -> Fixed {
         assert!(other != Fixed::ZERO);
         let (a, b) = (self.size(), Fixed(other.size()));
@@ -197,7 +197,7 @@ mod tests {
         }
     }
 
-    /// What a cut operation leaves over is a few units of the last bit.
+    /// Truncation causes errors of a few units of the last bit.
     #[test]
     fn long_numbers_are_close() {
         let last = f(2f64.powi(-310));

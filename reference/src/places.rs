@@ -11,7 +11,7 @@ use crate::time::time_at;
 
 pub const FRAME: usize = 18;
 
-/// What is handed to the time: the bits of lambda, which may be any pattern, k and M.
+/// The input of the time step: the bits of lambda, which may be any pattern, k and M.
 #[derive(Clone, Copy, Debug, PartialEq, Eq)]
 pub struct Place {
     pub lambda: u64,
@@ -24,7 +24,7 @@ impl Place {
         Place { lambda: lambda.to_bits(), k, m }
     }
 
-    /// Lambda's bits, k and M, each little-endian.
+    /// Returns lambda's bits, k and M, each little-endian.
     pub fn frame(&self) -> [u8; FRAME] {
         let mut frame = [0; FRAME];
         frame[..8].copy_from_slice(&self.lambda.to_le_bytes());
@@ -33,7 +33,7 @@ impl Place {
         frame
     }
 
-    /// The bits of the place's time as sixteen hexadecimal digits, or `void`.
+    /// Returns the bits of the place's time as sixteen hexadecimal digits, or `void`.
     pub fn line(&self) -> String {
         match time_at(f64::from_bits(self.lambda), self.k, self.m) {
             Some(t) => format!("{:016x}", t.to_bits()),
@@ -42,7 +42,7 @@ impl Place {
     }
 }
 
-/// Every place of the comparison.
+/// Returns every place of the comparison.
 pub fn places() -> Vec<Place> {
     let mut r = Random::new(9);
     let mut all = stations::places();

@@ -1,12 +1,12 @@
-//! The time equation itself (Izzo, equations 17, 18 and 21), to many more bits than an f64 has. It
-//! shares no step with the document's rule, which goes through a hypergeometric series.
+//! The time equation itself (Izzo, equations 17, 18 and 21), computed with many more bits than an f64 has.
+//! It finds the time from an angle, unlike 01's rule, which uses a hypergeometric series.
 
 use crate::angle::{arccosine, hyperbolic_arccosine, pi};
 use crate::fixed::Fixed;
 use crate::time::x_of;
 
-/// T at lambda, x = k/2^32 and M whole turns: (1/(1 − x²))·((ψ + M·π)/√|1 − x²| − x + λ·y). Near
-/// x = 1 the bracket loses about 50 bits of 320 to cancellation.
+/// Returns T at lambda, x = k/2^32 and M whole revolutions: (1/(1 − x²))·((ψ + M·π)/√|1 − x²| − x + λ·y).
+/// Near x = 1 the second factor loses about 50 of its 320 bits to cancellation.
 pub fn precise_time(lambda: f64, k: i64, m: u16) -> Fixed {
     let (one, lambda, x) = (Fixed::whole(1), Fixed::from_f64(lambda), Fixed::from_f64(x_of(k)));
     let u = one - x * x;
@@ -20,12 +20,12 @@ pub fn precise_time(lambda: f64, k: i64, m: u16) -> Fixed {
     (angle / u.abs().root() - x + lambda * y) / u
 }
 
-/// The limit at x = 1: (2/3)·(1 − λ³).
+/// Returns the limit of T at x = 1, which is (2/3)·(1 − λ³).
 fn parabola(lambda: Fixed) -> Fixed {
     (Fixed::whole(2) * (Fixed::whole(1) - lambda * lambda * lambda)).over(3)
 }
 
-/// How far a float is from the precise value, as a part of this.
+/// Returns the relative error of a float against the precise value.
 pub fn relative_error(t: f64, precise: Fixed) -> f64 {
     ((Fixed::from_f64(t) - precise) / precise).abs().to_f64()
 }
@@ -47,7 +47,8 @@ mod tests {
         assert!(close(precise_time(-0.5, PARABOLA, 0), Fixed::from_f64(0.75), 1e-90));
     }
 
-    /// On both sides of x = 1 the closed form meets the limit's tangent, dT/dx = (2/5)·(λ⁵ − 1).
+    /// On both sides of x = 1 the closed form agrees with the tangent at the limit, which has the slope
+    /// dT/dx = (2/5)·(λ⁵ − 1).
     #[test]
     fn the_closed_form_meets_the_parabola() {
         for lambda in [-0.9, -0.5, 0.0, 0.5, 0.9f64] {

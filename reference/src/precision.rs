@@ -1,10 +1,10 @@
-//! How precise the document's times are: the largest relative errors over a grid of places.
+//! How precise 01's times are: the largest relative errors over a grid of places.
 
 use crate::precise::{precise_time, relative_error};
 use crate::time::{time_at, x_of, HIGHEST, HIGHEST_TURNING, LOWEST, PARABOLA};
 use std::fmt;
 
-/// A place of the grid with what was found there; no error where the place is void.
+/// A place of the grid and the relative error of its time, None if the place is void.
 #[derive(Clone, Copy, Debug)]
 struct Found {
     lambda: f64,
@@ -13,14 +13,14 @@ struct Found {
     error: Option<f64>,
 }
 
-/// A part of the grid: a row of the table. Both ends of x are inside.
+/// A part of the grid, which is one row of the table. Both ends of x belong to it.
 struct Region {
     lambdas: fn(f64) -> bool,
     name: &'static str,
     x: [f64; 2],
 }
 
-/// A range of lambda, by its name.
+/// A range of lambda: its name, and the test whether a lambda belongs to it.
 type Range = (&'static str, fn(f64) -> bool);
 
 const LAMBDAS: [Range; 6] = [
@@ -33,7 +33,8 @@ const LAMBDAS: [Range; 6] = [
 ];
 const BANDS: [[f64; 2]; 4] = [[-1.0, -0.9], [-0.9, 0.0], [0.0, 0.9], [0.9, 4.0]];
 
-/// The table, with the largest error overall and over |L| <= 0.9 first.
+/// Returns the table. Before it come the largest errors overall, over the lambdas that the entrance
+/// accepts, and over |L| <= 0.9.
 pub fn report() -> String {
     let all = grid();
     let ordinary: Vec<Found> = all.iter().filter(|f| f.lambda.abs() <= 0.9).copied().collect();
@@ -61,7 +62,7 @@ impl Region {
     }
 }
 
-/// Every lambda with every k of its range, for M from 0 to 2.
+/// Evaluates every lambda of `lambdas` with every k of `some_k` that is in range, for M from 0 to 2.
 fn grid() -> Vec<Found> {
     let mut all = Vec::new();
     for lambda in lambdas() {
@@ -78,7 +79,7 @@ fn found(lambda: f64, k: i64, m: u16) -> Found {
     Found { lambda, x: x_of(k), m, error }
 }
 
-/// Tenths, some up to ±0.999, the shortest chord's (c/s = 2^-10), and some closer to ±1.
+/// Returns tenths, some values up to ±0.999, those of the shortest accepted chord (c/s = 2^-10), and some closer to ±1.
 fn lambdas() -> impl Iterator<Item = f64> {
     let tenths = (-9..=9).map(|i| f64::from(i) / 10.0);
     let shortest_chord = (1.0 - 1.0 / 1024.0f64).sqrt();
@@ -87,8 +88,8 @@ fn lambdas() -> impl Iterator<Item = f64> {
     tenths.chain(near.into_iter().chain(closer).flat_map(|l| [l, -l]))
 }
 
-/// x over the whole range, closer together at −1 and at 1; numbers without a pattern in their
-/// digits, but for the ends and x = 0 and 1.
+/// Returns k over the whole range of x, denser near −1 and near 1. Except for the ends, x = 0 and x = 1,
+/// the numbers have no pattern in their digits.
 fn some_k() -> impl Iterator<Item = i64> {
     let plain = [LOWEST, 0, HIGHEST_TURNING, PARABOLA, HIGHEST];
     let steps = (1..60).map(|i| LOWEST + i * 356_123_457).filter(|&k| k < HIGHEST);
@@ -97,7 +98,7 @@ fn some_k() -> impl Iterator<Item = i64> {
     plain.into_iter().chain(steps).chain(low).chain(parabola)
 }
 
-/// The counts of a part of the grid and its largest error.
+/// The number of places in a part of the grid, how many of them are void, and the place with the largest error.
 struct Summary {
     places: usize,
     void: usize,

@@ -1,11 +1,12 @@
-//! The sweep over the stations: sides, crossings, and the halving of each crossing's pair.
+//! The sweep over the stations (01, Stations, sides, crossings): sides, crossings, and the bisection of
+//! each crossing's pair.
 
 use crate::time::{time_at, HIGHEST, HIGHEST_TURNING, LOWEST, SPACING};
 
-/// The most crossings that are listed.
+/// The largest number of crossings that are listed.
 pub const PLACES: usize = 8;
 
-/// The interval at which the halving of a crossing's pair stops, and how often it was halved.
+/// The interval where the bisection of a crossing's pair stops, and the number of halvings.
 #[derive(Clone, Copy, Debug, PartialEq, Eq)]
 pub struct Bracket {
     pub lower: i64,
@@ -13,7 +14,8 @@ pub struct Bracket {
     pub halvings: u32,
 }
 
-/// What is known of all stations. A ninth crossing counts before a void station.
+/// What a sweep finds about the stations: all have times, at least one is void, or there is a ninth
+/// crossing. If there is a ninth crossing, void stations don't matter.
 #[derive(Clone, Copy, Debug, PartialEq, Eq)]
 pub enum Walk {
     Timed,
@@ -21,7 +23,7 @@ pub enum Walk {
     Ninth,
 }
 
-/// The brackets of the first eight crossings, the lowest first.
+/// The brackets of the first eight crossings, lowest first, and what the sweep finds about the stations.
 #[derive(Clone, Debug, PartialEq, Eq)]
 pub struct Crossings {
     pub brackets: Vec<Bracket>,
@@ -29,8 +31,8 @@ pub struct Crossings {
 }
 
 impl Crossings {
-    /// The count, the walk as a word, then both ends of each bracket in sixteen hexadecimal digits
-    /// of two's complement and its halvings.
+    /// Returns the number of brackets and the walk as a word, then for each bracket both ends as sixteen
+    /// hexadecimal digits in two's complement, and its halvings.
     pub fn line(&self) -> String {
         let walk = match self.walk {
             Walk::Timed => "timed",
@@ -43,19 +45,19 @@ impl Crossings {
     }
 }
 
-/// The stations in rising order.
+/// Returns the stations in rising order.
 pub fn stations(m: u16) -> impl Iterator<Item = i64> {
     let highest = if m == 0 { HIGHEST } else { HIGHEST_TURNING };
     (LOWEST..=highest).step_by(SPACING as usize)
 }
 
-/// The crossings of a wanted time, for any lambda, M and wanted time.
+/// Returns the crossings of a wanted time, for any lambda, M and wanted time.
 pub fn crossings(lambda: f64, m: u16, wanted: f64) -> Crossings {
     let times: Vec<Option<f64>> = stations(m).map(|k| time_at(lambda, k, m)).collect();
     crossings_of(&times, wanted, |k| time_at(lambda, k, m))
 }
 
-/// The same, of the stations' times (None is void) and the time at any place.
+/// Returns the crossings, given the times of the stations (None is void) and a function for the time at any place.
 pub fn crossings_of(times: &[Option<f64>], wanted: f64, time: impl Fn(i64) -> Option<f64>) -> Crossings {
     let found: Vec<usize> = changes(times, wanted).take(PLACES + 1).collect();
     let walk = if found.len() > PLACES {
@@ -74,7 +76,7 @@ pub fn crossings_of(times: &[Option<f64>], wanted: f64, time: impl Fn(i64) -> Op
     Crossings { brackets: found.iter().take(PLACES).map(bracket).collect(), walk }
 }
 
-/// The index of the lower station of each crossing, rising.
+/// Returns the index of the lower station of each crossing, in rising order.
 pub fn changes(times: &[Option<f64>], wanted: f64) -> impl Iterator<Item = usize> + '_ {
     let crossing = move |(i, pair): (usize, &[Option<f64>])| match *pair {
         [Some(s), Some(t)] if below(s, wanted) != below(t, wanted) => Some(i),
@@ -83,13 +85,13 @@ pub fn changes(times: &[Option<f64>], wanted: f64) -> impl Iterator<Item = usize
     times.windows(2).enumerate().filter_map(crossing)
 }
 
-/// The side of a time. One that equals the wanted time isn't below it.
+/// Reports whether a time is below the wanted time. An equal time isn't below it.
 fn below(time: f64, wanted: f64) -> bool {
     time < wanted
 }
 
-/// Halves a bracket to width 1 or to a void middle. `rising` says that the lower end is below, and
-/// the upper end then isn't; the middle replaces the end of its own side.
+/// Halves a bracket until its width is 1 or its middle is void. `rising` says whether the lower end is
+/// below; the upper end is on the other side. The middle replaces the end on its own side.
 fn halve(b: Bracket, rising: bool, side: &impl Fn(i64) -> Option<bool>) -> Bracket {
     let middle = (b.lower + b.upper) / 2;
     if b.upper - b.lower == 1 || middle == b.lower || middle == b.upper {

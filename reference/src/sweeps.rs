@@ -12,8 +12,7 @@ use curve::{Curve, SORTS};
 
 pub const FRAME: usize = 24;
 
-/// What is handed to the sweep: the bits of lambda and of the wanted time, which may be any
-/// patterns, and M.
+/// The input of a sweep: the bits of lambda and of the wanted time, which may be any patterns, and M.
 #[derive(Clone, Copy, Debug, PartialEq, Eq)]
 pub struct Case {
     pub lambda: u64,
@@ -26,7 +25,7 @@ impl Case {
         Case { lambda: lambda.to_bits(), wanted: wanted.to_bits(), m }
     }
 
-    /// Lambda's bits, the wanted time's and M as a word, each little-endian.
+    /// Returns the bits of lambda and of the wanted time, and M as a u64, each little-endian.
     pub fn frame(&self) -> [u8; FRAME] {
         let mut frame = [0; FRAME];
         frame[..8].copy_from_slice(&self.lambda.to_le_bytes());
@@ -40,7 +39,7 @@ impl Case {
     }
 }
 
-/// Every sweep of the comparison.
+/// Returns every sweep of the comparison.
 pub fn cases() -> Vec<Case> {
     let mut r = Random::new(11);
     let mut all = every_turn(&mut r);
@@ -49,7 +48,8 @@ pub fn cases() -> Vec<Case> {
     all
 }
 
-/// Every number of whole turns for each lambda, the sort of the wanted time another each time.
+/// Returns sweeps with every number of whole revolutions for each lambda. The sort of the wanted time
+/// changes from one to the next.
 fn every_turn(r: &mut Random) -> Vec<Case> {
     let mut all = Vec::new();
     for (i, lambda) in lambdas::lambdas(r).into_iter().enumerate() {

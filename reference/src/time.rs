@@ -1,12 +1,12 @@
-//! The time at one place: lambda L, x = k/2^32 and M whole turns, by the document's seven steps.
-//! Every operation is rounded once, in the order written there.
+//! The time at one place, computed from lambda L, x = k/2^32 and M whole revolutions by 01's seven steps
+//! (01, Time at one place). Every operation is rounded once, in the order written there.
 
-/// Why a place has no time; of several, the one met first in the steps.
+/// Why a place has no time. If several reasons apply, the first one met in the steps counts.
 #[derive(Clone, Copy, Debug, PartialEq, Eq)]
 pub enum Void {
-    /// Step 1: lambda, k or M outside its range.
+    /// Step 1: lambda, k or M is outside its range.
     Range,
-    /// The operand of a root is refused.
+    /// The operand of a square root is refused.
     Root,
     /// A divisor is zero.
     Divisor,
@@ -14,11 +14,11 @@ pub enum Void {
     NotFinite,
 }
 
-/// The distance of neighbouring stations in k.
+/// The distance between neighbouring stations in k.
 pub const SPACING: i64 = 1 << 20;
 /// The k of x = 1, where the orbit is a parabola.
 pub const PARABOLA: i64 = 1 << 32;
-/// The ends of k: the lower, the upper without whole turns, the upper with some.
+/// The limits of k: the lower one, the upper one without whole revolutions, and the upper one with some.
 pub const LOWEST: i64 = -PARABOLA + SPACING;
 pub const HIGHEST: i64 = 1 << 34;
 pub const HIGHEST_TURNING: i64 = PARABOLA - SPACING;
@@ -26,12 +26,12 @@ pub const MOST_TURNS: u16 = 16;
 
 const PI: u64 = 0x4009_21FB_5444_2D18;
 
-/// The time at a place, none where the place is void.
+/// Returns the time at a place, or None if the place is void.
 pub fn time_at(lambda: f64, k: i64, m: u16) -> Option<f64> {
     time(lambda, k, m).ok()
 }
 
-/// The time at a place, or why there is none.
+/// Returns the time at a place, or the reason why it is void.
 pub fn time(lambda: f64, k: i64, m: u16) -> Result<f64, Void> {
     if !in_range(lambda, k, m) {
         return Err(Void::Range);
@@ -50,19 +50,18 @@ pub fn time(lambda: f64, k: i64, m: u16) -> Result<f64, Void> {
     }
 }
 
-/// Step 1. A NaN isn't below 1 either.
+/// Reports whether a place passes step 1. A NaN doesn't pass, because it isn't below 1.
 pub fn in_range(lambda: f64, k: i64, m: u16) -> bool {
     let highest = if m == 0 { HIGHEST } else { HIGHEST_TURNING };
     lambda.abs() < 1.0 && m <= MOST_TURNS && (LOWEST..=highest).contains(&k)
 }
 
-/// x = k/2^32, exact for every k of the range.
+/// Returns x = k/2^32, which is exact for every k of the range.
 pub fn x_of(k: i64) -> f64 {
     k as f64 / PARABOLA as f64
 }
 
-/// Steps 3 to 5: F(3, 1; 5/2; S1) from C1 = 1 − S1. Only the last S, of n = 4, is used, so the
-/// first three are left out.
+/// Performs steps 3 to 5: returns F(3, 1; 5/2; S1), computed from C1 = 1 − S1. Only S4 is used, so S1 to S3 are left out.
 fn hypergeometric(c1: f64) -> Result<f64, Void> {
     let mut c = [c1, 0.0, 0.0, 0.0];
     let mut w = [0.0; 3];
@@ -77,19 +76,19 @@ fn hypergeometric(c1: f64) -> Result<f64, Void> {
     Ok(g)
 }
 
-/// Step 4: sixteen terms past the first, from the last. The ratios are 6/5 to 36/35.
+/// Performs step 4: sums sixteen terms beyond the first, starting with the last. The ratios are 6/5 to 36/35.
 fn series(z: f64) -> f64 {
     let ratio = |n: u32| f64::from(2 * n + 6) / f64::from(2 * n + 5);
     (0..16).rev().fold(1.0, |g, n| 1.0 + (ratio(n) * z) * g)
 }
 
-/// Step 7: what M whole turns add.
+/// Performs step 7: returns the time that M whole revolutions add.
 fn turns(u: f64, m: u16) -> Result<f64, Void> {
     quotient(f64::from(m) * f64::from_bits(PI), u * root(u)?)
 }
 
-/// The root, by the hardware. Negative numbers, infinities and NaN are refused; a zero of either
-/// sign is its own root.
+/// Returns the square root, computed by the hardware. Negative numbers, infinities and NaN are refused. The
+/// root of a zero is that same zero, with its sign.
 fn root(a: f64) -> Result<f64, Void> {
     if a >= 0.0 && a.is_finite() {
         Ok(a.sqrt())

@@ -1,17 +1,17 @@
-//! Places of no pattern: inside every range of step 1, and of any bits.
+//! Random places: with values drawn from the ranges of step 1 (01, Time at one place), and with arbitrary bits.
 
 use super::ends::{ends, turns};
 use super::Place;
 use crate::random::Random;
 use crate::time::{HIGHEST, HIGHEST_TURNING, LOWEST, MOST_TURNS, PARABOLA};
 
-/// Every number of whole turns, without any more often.
+/// Returns places for every number of whole revolutions, with more of them for M = 0.
 pub fn inside(r: &mut Random) -> Vec<Place> {
     let every = (0..=MOST_TURNS).flat_map(|m| [m; 300]);
     every.chain([0; 3000]).map(|m| Place::new(lambda(r), some_k(m, r), m)).collect()
 }
 
-/// A lambda over (−1, 1); one time in four it is close to an end, one in four close to 0.
+/// Draws a lambda between −1 and 1. One in four is drawn close to an end, one in four close to 0.
 fn lambda(r: &mut Random) -> f64 {
     let size = match r.below(4) {
         0 => 1.0 - 2f64.powi(-(r.below(50) as i32)) * r.fraction(),
@@ -25,7 +25,7 @@ fn lambda(r: &mut Random) -> f64 {
     }
 }
 
-/// A k of the range; one time in four it is close to x = 1 or as close as the range allows.
+/// Draws a k from the range. One in four is close to x = 1, or as close as the range allows.
 fn some_k(m: u16, r: &mut Random) -> i64 {
     let highest = if m == 0 { HIGHEST } else { HIGHEST_TURNING };
     if r.below(4) == 0 {
@@ -36,7 +36,7 @@ fn some_k(m: u16, r: &mut Random) -> i64 {
     LOWEST + r.below((highest - LOWEST) as u64 + 1) as i64
 }
 
-/// Any pattern of lambda, any k or an end of a range, any number of whole turns.
+/// Returns places with any lambda, k and M: values in the ranges, values at their ends, and random bits.
 pub fn outside(r: &mut Random) -> Vec<Place> {
     let ends: Vec<i64> = ends().collect();
     let turns: Vec<u16> = turns().collect();

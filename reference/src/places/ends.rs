@@ -1,4 +1,4 @@
-//! The ends of every range of k and their neighbours, with every number of whole turns.
+//! The ends of every range of k and their neighbours, with every number of whole revolutions and some that are too large.
 
 use super::Place;
 use crate::time::{HIGHEST, HIGHEST_TURNING, LOWEST, PARABOLA, SPACING};
@@ -15,14 +15,13 @@ pub fn places() -> Vec<Place> {
     all
 }
 
-/// 0 to 17, the greatest, and numbers whose low byte alone would be in the range.
+/// Returns 0 to 17, 255, the greatest u16, and numbers that would be in the range if only their low byte were kept.
 pub fn turns() -> impl Iterator<Item = u16> {
     (0..=17).chain([255, 256, 257, 0x1000, 0x8000, 0xFF00, u16::MAX])
 }
 
-/// The k at which something changes, each with both neighbours, and the greatest and least k.
-/// Those far outside would be in the range if only their low bits were kept, or are no longer
-/// exact as floats.
+/// Returns each k at which something changes, with both neighbours, and the greatest and least k. Some k far
+/// outside the range would be inside it if only their low bits were kept, and others aren't exact as floats.
 pub fn ends() -> impl Iterator<Item = i64> {
     let changes = [0, PARABOLA, -PARABOLA, LOWEST, HIGHEST, HIGHEST_TURNING, -HIGHEST, PARABOLA + SPACING];
     let far = [1 << 35, 1 << 53, -(1 << 53), 1 << 62, i64::MAX - 512];

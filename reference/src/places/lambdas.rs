@@ -1,5 +1,4 @@
-//! Lambdas of every structure: zeros, powers of two, the closest to ±1, and patterns that are no
-//! lambda at all.
+//! Lambdas of every structure: zeros, powers of two, the floats closest to ±1, and patterns that aren't valid lambdas.
 
 use super::Place;
 use crate::random::Random;
@@ -21,7 +20,7 @@ pub fn places(r: &mut Random) -> Vec<Place> {
     all
 }
 
-/// The ends of the range, some k of few digits, and three of no pattern.
+/// Returns the ends of the range, some k with few binary digits, and three random k.
 fn some_k(m: u16, r: &mut Random) -> impl Iterator<Item = i64> {
     let highest = if m == 0 { HIGHEST } else { HIGHEST_TURNING };
     let half = PARABOLA / 2;
@@ -31,7 +30,7 @@ fn some_k(m: u16, r: &mut Random) -> impl Iterator<Item = i64> {
     plain.into_iter().chain(random)
 }
 
-/// Sizes below 1.
+/// Returns the bits of sizes below 1.
 fn inside() -> Vec<u64> {
     let mut all = vec![0, 1, 2, 1 << 51, (1 << 52) - 1, 1 << 52, (1 << 52) + 1];
     all.extend([0.6, 0.9, 0.99, 0.999, (1.0 - 1.0 / 1024.0f64).sqrt()].map(f64::to_bits));
@@ -41,7 +40,7 @@ fn inside() -> Vec<u64> {
     all
 }
 
-/// Sizes of 1 and above, infinity and NaN.
+/// Returns the bits of sizes of 1 and above, infinity and NaN.
 fn outside() -> Vec<u64> {
     let one = 1f64.to_bits();
     let nan = [INFINITY + 1, INFINITY | QUIET, INFINITY | QUIET | 1, SIGN - 1, INFINITY | (QUIET - 1)];

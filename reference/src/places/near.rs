@@ -1,4 +1,4 @@
-//! Lambdas close to −1 with x below 0. There η and 1 + L cancel in C1, so that roots of numbers
+//! Lambdas close to −1 with x below 0. There the terms 1 + L and x·η of C1 cancel, so that roots of numbers
 //! just below zero and divisors of zero occur.
 
 use super::Place;
@@ -9,7 +9,8 @@ pub fn places(r: &mut Random) -> Vec<Place> {
     (0..3000).map(|i| place(i, r)).collect()
 }
 
-/// 1 + L of each power of two from 2^-53 to 2^-12, with x over (−1, 0) and close to its ends.
+/// Draws a place. 1 + L is drawn from one to two times a power of two, for each power from 2^-53 to 2^-12
+/// in turn. x is drawn from −1 to 0, often close to an end.
 fn place(i: u32, r: &mut Random) -> Place {
     let gap = 2f64.powi(-53 + (i % 42) as i32) * (1.0 + r.fraction());
     let k = match r.below(3) {

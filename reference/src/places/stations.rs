@@ -1,10 +1,10 @@
-//! All stations of some lambdas, as a sweep meets them.
+//! All stations of some lambdas, as a sweep visits them.
 
 use super::Place;
 use crate::time::{HIGHEST, HIGHEST_TURNING, LOWEST, SPACING};
 
-/// A lambda of either way, and the least lambda that the entrance lets pass (c/s = 2^-10, long
-/// way), each with numbers of whole turns.
+/// Returns the stations of one lambda for each way, and of the least lambda that the entrance accepts (long
+/// way, c/s = 2^-10), each with one or two numbers of whole revolutions.
 pub fn places() -> Vec<Place> {
     let shortest_chord = -(1.0 - 1.0 / 1024.0f64).sqrt();
     let sweeps = [(0.613, 0), (0.613, 1), (shortest_chord, 0), (shortest_chord, 2), (-0.287, 3)];

@@ -1,4 +1,4 @@
-//! The list is as long and as varied as asked.
+//! The list is as long and as varied as the comparison needs.
 
 use super::*;
 use crate::time::{time, Void, HIGHEST, HIGHEST_TURNING, LOWEST, MOST_TURNS};
@@ -7,8 +7,8 @@ fn outcome(p: &Place) -> Result<f64, Void> {
     time(f64::from_bits(p.lambda), p.k, p.m)
 }
 
-/// No place of step 1's range has a result that isn't finite: the least C1 above zero is above
-/// 2^-200, so G stays below 2^400. That kind of void never occurs.
+/// In the range of step 1 the result is always finite: the least C1 above zero is above 2^-200, so G stays
+/// below 2^400. So `NotFinite` never occurs.
 #[test]
 fn times_and_every_kind_of_void_occur() {
     let all = places();

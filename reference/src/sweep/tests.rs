@@ -1,4 +1,4 @@
-//! The document's words on stations, sides and crossings, on times that are made up.
+//! Tests 01's rules for stations, sides and crossings on made-up times.
 
 use super::*;
 use crate::time::PARABOLA;
@@ -7,17 +7,17 @@ fn timed(times: &[f64]) -> Vec<Option<f64>> {
     times.iter().map(|&t| Some(t)).collect()
 }
 
-/// The crossings among a few stations, no middle of which has a time.
+/// Returns the crossings among a few stations, if no middle has a time.
 fn among(times: &[Option<f64>], wanted: f64) -> Crossings {
     crossings_of(times, wanted, |_| None)
 }
 
-/// The lower stations' indices of the crossings of the wanted time 2.
+/// Returns the index of the lower station of each crossing, for the wanted time 2.
 fn places(times: &[f64]) -> Vec<usize> {
     changes(&timed(times), 2.0).collect()
 }
 
-/// A time that grows by 1 with k, from 0 at the lowest station.
+/// Returns a time that is 0 at the lowest station and grows by 1 with each k.
 fn slope(k: i64) -> f64 {
     (k - LOWEST) as f64
 }
@@ -52,14 +52,14 @@ fn equal_stations_in_a_row_are_on_one_side() {
     assert_eq!(places(&[1.0]), []);
 }
 
-/// Two roots inside one pair leave its ends on one side.
+/// If the times cross the wanted time twice inside one pair, the pair's ends are on the same side.
 #[test]
 fn two_roots_inside_one_pair_are_not_seen() {
     let found = crossings_of(&timed(&[3.0, 3.0]), 2.0, |_| Some(1.0));
     assert_eq!(found, Crossings { brackets: vec![], walk: Walk::Timed });
 }
 
-/// A pair with a void station is no crossing, and the void one is told beside those found.
+/// A pair with a void station isn't a crossing. The void station is reported beside the crossings.
 #[test]
 fn void_stations() {
     let (a, b) = (Some(1.0), Some(3.0));
@@ -70,8 +70,8 @@ fn void_stations() {
     assert_eq!(among(&[None, None], 2.0), Crossings { brackets: vec![], walk: Walk::Void });
 }
 
-/// Middles are odd multiples of 2^19, 2^18 and so on above the lower station: the first that is void
-/// ends the halving and isn't counted, and the width tells how many came before.
+/// The middles are odd multiples of 2^19, 2^18 and so on above the lower station. The first void middle
+/// ends the bisection and isn't counted. The width shows how many halvings came before it.
 #[test]
 fn a_void_middle_at_every_depth() {
     for depth in 0..=20 {
@@ -87,7 +87,7 @@ fn a_void_middle_at_every_depth() {
     }
 }
 
-/// Only the middles that the halving meets matter.
+/// Only the middles that the bisection visits matter.
 #[test]
 fn a_void_place_beside_the_path_is_not_met() {
     let beside = LOWEST + 3 * SPACING / 4;
@@ -97,7 +97,7 @@ fn a_void_place_beside_the_path_is_not_met() {
     assert_eq!(found.brackets, [b]);
 }
 
-/// On a falling slope the lower end isn't below; a middle equal to the wanted time replaces it.
+/// On a falling slope the lower end isn't below, so a middle equal to the wanted time replaces the lower end.
 #[test]
 fn a_falling_slope() {
     let fall = |k: i64| Some(-slope(k));
@@ -115,7 +115,7 @@ fn the_bracket_of_a_later_pair() {
     assert_eq!(found.brackets, [b]);
 }
 
-/// Times that change sides `n` times, then stay.
+/// Returns times that change sides `n` times.
 fn zigzag(n: usize) -> Vec<Option<f64>> {
     (0..=n).map(|i| Some(if i % 2 == 0 { 1.0 } else { 3.0 })).collect()
 }
@@ -128,7 +128,7 @@ fn eight_crossings_are_listed() {
     assert_eq!(lowers, (0..8).map(|i| LOWEST + i * SPACING).collect::<Vec<_>>());
 }
 
-/// The ninth ends the walk, wherever a void station is; eight don't.
+/// A ninth crossing ends the sweep, wherever a void station is. Eight crossings don't end it.
 #[test]
 fn nine_crossings_end_the_walk() {
     for n in [9, 10, 40] {
@@ -145,7 +145,7 @@ fn nine_crossings_end_the_walk() {
     assert_eq!(among(&times, 2.0).walk, Walk::Void);
 }
 
-/// A wanted time that isn't a number is above no time.
+/// No time is below a NaN or −∞, and every time is below ∞, so all stations are on the same side.
 #[test]
 fn an_odd_wanted_time_makes_no_crossing() {
     for wanted in [f64::NAN, f64::INFINITY, f64::NEG_INFINITY] {
@@ -153,8 +153,8 @@ fn an_odd_wanted_time_makes_no_crossing() {
     }
 }
 
-/// The times of L = 0.5 fall with k without whole turns, so each wanted time has one place: width 1
-/// after twenty halvings.
+/// For L = 0.5 without whole revolutions the times fall with k, so each wanted time has one bracket, of
+/// width 1 after twenty halvings.
 #[test]
 fn a_wanted_time_of_a_real_curve() {
     let t = |k| time_at(0.5, k, 0).unwrap();
@@ -165,7 +165,7 @@ fn a_wanted_time_of_a_real_curve() {
     assert!(t(b.lower) >= wanted && t(b.upper) < wanted);
 }
 
-/// Every station is void where lambda isn't below 1 in size or M is above 16.
+/// Every station is void if lambda isn't below 1 in size or M is above 16.
 #[test]
 fn nothing_but_void_stations() {
     for (lambda, m) in [(1.0, 0), (-1.0, 3), (f64::NAN, 0), (0.5, 17)] {

@@ -1,17 +1,17 @@
-//! The times of all stations, and the wanted times that are drawn from them.
+//! The times of all stations, and wanted times that are drawn from them.
 
 use crate::random::Random;
 use crate::sweep::{crossings_of, stations, Crossings};
 use crate::time::time_at;
 
-/// How many sorts of wanted times there are.
+/// The number of sorts of wanted times.
 pub const SORTS: u64 = 14;
 
-/// Wanted times that no station has.
+/// Special wanted times that no station has.
 pub const ODD: [f64; 9] =
     [f64::NAN, -f64::NAN, f64::INFINITY, f64::NEG_INFINITY, -1.0, 0.0, -0.0, f64::MIN_POSITIVE, f64::MAX];
 
-/// The times of all stations for one lambda and M.
+/// The times of all stations for one lambda and M. `known` contains those of the stations that aren't void.
 pub struct Curve {
     lambda: f64,
     m: u16,
@@ -30,9 +30,9 @@ impl Curve {
         crossings_of(&self.times, wanted, |k| time_at(self.lambda, k, self.m))
     }
 
-    /// A wanted time of one of the sorts: between the times of two neighbours, the time of a station
-    /// to the bit, or one beside such a time. The stations are any, the least, the first, the last and
-    /// one above its neighbours.
+    /// Draws a wanted time of the given sort: a time between those of two neighbours, the time of a station to the
+    /// bit, or a float next to it. The station is a random one, the one with the least time, the first, the last, or
+    /// one that is above both neighbours. For the last sort, and if every station is void, it draws one of `ODD`.
     pub fn wanted(&self, sort: u64, r: &mut Random) -> f64 {
         let (Some(&first), Some(&last)) = (self.known.first(), self.known.last()) else {
             return ODD[r.below(ODD.len() as u64) as usize];
@@ -54,12 +54,13 @@ impl Curve {
         }
     }
 
-    /// The time of some station.
+    /// Draws the time of a station.
     pub fn any(&self, r: &mut Random) -> f64 {
         self.known[r.below(self.known.len() as u64) as usize]
     }
 
-    /// The time of a station between two that are below it; where rounding makes none, of any.
+    /// Draws the time of a station that is above both neighbours. Rounding causes these peaks; if there is
+    /// none, draws the time of any station.
     pub fn peak(&self, r: &mut Random) -> f64 {
         let higher = self.known.windows(3).filter(|t| t[0] < t[1] && t[2] < t[1]);
         let peaks: Vec<f64> = higher.map(|t| t[1]).collect();
@@ -69,7 +70,8 @@ impl Curve {
         peaks[r.below(peaks.len() as u64) as usize]
     }
 
-    /// One of the twelve least times: few stations are below it, and among noise each makes two crossings.
+    /// Draws one of the twelve least times. Few stations are below it, and if the times are noisy, each of
+    /// these makes two crossings.
     pub fn low(&self, r: &mut Random) -> f64 {
         let mut least = self.known.clone();
         let i = r.below(12.min(least.len() as u64)) as usize;

@@ -1,4 +1,4 @@
-//! The lambdas that are swept with every number of whole turns.
+//! The lambdas that are swept with every number of whole revolutions.
 
 use crate::random::Random;
 
@@ -10,8 +10,8 @@ pub fn lambdas(r: &mut Random) -> Vec<f64> {
     all
 }
 
-/// Zeros, powers of two, a subnormal, some of few digits, and the last that the entrance lets pass
-/// (c/s = 2^-10).
+/// Returns zeros, powers of two, a subnormal, some values with few digits, and the last one that the
+/// entrance accepts (c/s = 2^-10), all with both signs.
 fn plain() -> Vec<f64> {
     let shortest_chord = (1.0 - 1.0 / 1024.0f64).sqrt();
     let powers = [-1022, -600, -53, -27, -2, -1].map(|e| 2f64.powi(e));
@@ -20,8 +20,8 @@ fn plain() -> Vec<f64> {
     sizes.flat_map(|size| [size, -size]).collect()
 }
 
-/// A lambda 2^-j or a little more below 1. The times are noisy from about j = 37 on, and for its
-/// negative from about j = 21 on.
+/// Draws a lambda that is one to two times 2^-j below 1. The times are noisy from about j = 37 on, and with
+/// the negated lambda from about j = 21 on.
 pub fn beside_one(j: i32, r: &mut Random) -> f64 {
     (1.0 - 2f64.powi(-j) * (1.0 + r.fraction())).min(1f64.next_down())
 }

@@ -1,5 +1,5 @@
-//! Sweeps that no question asks for: lambdas whose size isn't below 1, and too many whole turns. Every
-//! station is void there.
+//! Sweeps that no question asks for: lambdas whose size isn't below 1, and too many whole revolutions. All
+//! their stations are void.
 
 use super::curve::ODD;
 use super::Case;
@@ -10,7 +10,7 @@ const SIGN: u64 = 1 << 63;
 const INFINITY: u64 = 0x7FF0_0000_0000_0000;
 const QUIET: u64 = INFINITY | 1 << 51;
 
-/// Sizes of 1 and above, infinity and NaN, both signs of each.
+/// Returns the bits of sizes of 1 and above, infinity and NaN, each with both signs.
 fn lambdas() -> impl Iterator<Item = u64> {
     let one = 1f64.to_bits();
     let sizes = [one, one + 1, 2f64.to_bits(), INFINITY - 1, INFINITY, INFINITY + 1, QUIET, SIGN - 1];
@@ -29,7 +29,7 @@ pub fn cases(r: &mut Random) -> Vec<Case> {
     all
 }
 
-/// An ordinary wanted time, an odd one, or any bits.
+/// Draws the bits of an ordinary wanted time, of a special one, or random bits.
 fn wanted(r: &mut Random) -> u64 {
     match r.below(4) {
         0 => ODD[r.below(ODD.len() as u64) as usize].to_bits(),

@@ -1,5 +1,5 @@
-//! Sweeps that are met seldom: many crossings, void stations beside crossings, and brackets that end
-//! at a void middle. Rounding makes them where lambda is close to ±1.
+//! Rare sweeps: many crossings, void stations beside crossings, and brackets that end at a void middle.
+//! Rounding causes them if lambda is close to ±1.
 
 use super::curve::Curve;
 use super::lambdas::beside_one;
@@ -8,7 +8,7 @@ use crate::random::Random;
 use crate::sweep::{Crossings, Walk};
 use crate::time::MOST_TURNS;
 
-/// How many sweeps of a shape are kept, and how many curves are searched.
+/// How many sweeps of each shape are kept, and how many curves are searched.
 const KEPT: usize = 6;
 const CURVES: u32 = 600;
 
@@ -19,7 +19,8 @@ fn shape(c: &Crossings) -> Shape {
     (c.brackets.len(), c.walk, c.brackets.iter().any(|b| b.halvings < 20))
 }
 
-/// Up to two crossings with times everywhere are ordinary.
+/// Returns sweeps that aren't ordinary. A sweep is ordinary if it has at most two crossings, all stations
+/// have times, and no bracket ends at a void middle.
 pub fn cases(r: &mut Random) -> Vec<Case> {
     let mut found: Vec<(Shape, Case)> = Vec::new();
     for i in 0..CURVES {
@@ -37,8 +38,8 @@ pub fn cases(r: &mut Random) -> Vec<Case> {
     found.into_iter().map(|f| f.1).collect()
 }
 
-/// A lambda close to 1, where the times are noisy without whole turns only; or one close to −1, often
-/// just so close that the noise begins.
+/// Draws a lambda and M with noisy times: a lambda close to 1, where the times are noisy only for M = 0, or
+/// one close to −1, often one where the noise just begins.
 fn noisy(i: u32, r: &mut Random) -> (f64, u16) {
     let turns = r.below(u64::from(MOST_TURNS) + 1) as u16;
     match i % 4 {

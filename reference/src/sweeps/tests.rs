@@ -1,4 +1,4 @@
-//! The list is as long and as varied as asked.
+//! The list is as long and as varied as the comparison needs.
 
 use super::*;
 use crate::sweep::{stations, Crossings, Walk};
@@ -6,7 +6,7 @@ use crate::time::time_at;
 use std::collections::{BTreeMap, BTreeSet};
 use std::sync::OnceLock;
 
-/// Every case with its crossings, worked out once for all tests.
+/// Returns every case with its crossings, computed once for all tests.
 fn rows() -> &'static [(Case, Crossings)] {
     static ROWS: OnceLock<Vec<(Case, Crossings)>> = OnceLock::new();
     ROWS.get_or_init(|| cases().into_iter().map(|c| (c, found(&c))).collect())
@@ -37,7 +37,7 @@ fn every_number_of_turns_for_320_triangles_and_more() {
     }
 }
 
-/// Each count with times everywhere and with void stations, and the walk that is left at the ninth.
+/// Every number of crossings occurs with all stations timed and with void stations, and some sweeps end at a ninth crossing.
 #[test]
 fn every_count_and_every_walk() {
     let mut tally = BTreeMap::new();
@@ -62,7 +62,7 @@ fn every_count_and_every_walk() {
     assert!(rows().iter().filter(|(_, c)| stopped_early(c)).count() >= 100);
 }
 
-/// Whether some station's time is the wanted one to the bit: between two below, between two above,
+/// Reports whether some station's time equals the wanted time: between two below it, between two above it,
 /// between one of each, and at an end.
 fn met(case: &Case) -> [bool; 4] {
     let (lambda, wanted) = (f64::from_bits(case.lambda), f64::from_bits(case.wanted));
@@ -78,7 +78,7 @@ fn met(case: &Case) -> [bool; 4] {
     [between(|a, b, c| a < b && c < b), between(|a, b, c| a > b && c > b), slope, at_end]
 }
 
-/// The document's corners, in sweeps that aren't left at a ninth crossing.
+/// 01's corner cases occur, in sweeps that don't end at a ninth crossing.
 #[test]
 fn stations_that_meet_the_wanted_time() {
     let walked = rows().iter().filter(|(_, c)| c.walk != Walk::Ninth);
