@@ -1,10 +1,11 @@
-//! What a file of records holds, and where two of them part.
+//! Counts the records of a file, and finds where two files of records differ.
 
 use crate::record::{split, Record};
 use crate::wire::QUESTION_SIZE;
 use std::collections::BTreeMap;
 
-/// The number of records, of answers by their entries and of refusals by their number, a line each.
+/// Returns the number of records, then the counts of answers by their number of entries, of refusals by
+/// their number and of parts that aren't records, one line each.
 pub fn tally(answers: &[u8]) -> String {
     let records = split(answers);
     let mut kinds: BTreeMap<(u8, u16), u64> = BTreeMap::new();
@@ -25,8 +26,8 @@ pub fn tally(answers: &[u8]) -> String {
     format!("records: {}\n{lines}", records.len())
 }
 
-/// The first slot whose records differ, with the name of either file and its record; none where every
-/// byte is equal.
+/// Describes the first slot whose records differ: the question, and each file's name and record. Returns
+/// None if all bytes are equal.
 pub fn difference(questions: &[u8], files: [(&str, &[u8]); 2]) -> Option<String> {
     let [a, b] = files.map(|(_, bytes)| split(bytes));
     if a == b {

@@ -1,5 +1,5 @@
-//! The entrance checks: the numbers 1 to 10 in the order of the table, and what an accepted
-//! question becomes.
+//! The entrance checks (01, Numbers of refusal): numbers 1 to 10 in the order of the table, and the problem
+//! that an accepted question becomes.
 
 use crate::triangle::{self, square, Triangle};
 use crate::wire::{Question, Vector, QUESTION_KIND, QUESTION_LENGTH};
@@ -9,11 +9,11 @@ const TWO_60: f64 = (1u64 << 60) as f64;
 const PLANE: f64 = 1.0 / TWO_40;
 const SHORT: f64 = 1.0 / 1024.0;
 
-/// The least answer buffer, for a record of eight entries.
+/// The size of the smallest accepted answer buffer, which holds a record of eight entries.
 pub const ROOM: usize = 528;
 pub const MOST_REVOLUTIONS: u16 = 16;
 
-/// An accepted question.
+/// An accepted question, with the values that are computed from it.
 #[derive(Clone, Copy, Debug)]
 pub struct Problem {
     pub job: u32,
@@ -30,8 +30,7 @@ pub struct Problem {
     pub wanted_time: f64,
 }
 
-/// The problem of a question's bytes, for an answer buffer of `room` bytes, or the number of its
-/// refusal.
+/// Judges a question's bytes for an answer buffer of `room` bytes. Returns the problem, or the number of the refusal.
 pub fn judge(bytes: &[u8], room: usize) -> Result<Problem, u16> {
     let question = Question::read(bytes).ok_or(1u16)?;
     check_form(&question)?;
@@ -47,7 +46,7 @@ pub fn judge(bytes: &[u8], room: usize) -> Result<Problem, u16> {
     Ok(problem(&question, normal, triangle))
 }
 
-/// Number 1, all but the size.
+/// Checks for number 1, except for the size.
 fn check_form(q: &Question) -> Result<(), u16> {
     if q.length != QUESTION_LENGTH || q.kind != QUESTION_KIND || q.job == 0 || q.way > 1 || q.spare != 0 {
         return Err(1);
@@ -55,7 +54,7 @@ fn check_form(q: &Question) -> Result<(), u16> {
     Ok(())
 }
 
-/// Numbers 2 to 5.
+/// Checks for numbers 2 to 5.
 fn check_ranges(q: &Question) -> Result<(), u16> {
     let mut components = q.position1.iter().chain(&q.position2);
     if components.any(|x| !x.is_finite() || x.abs() > TWO_40) {
@@ -76,7 +75,7 @@ fn check_ranges(q: &Question) -> Result<(), u16> {
     Ok(())
 }
 
-/// Number 8, and the plane's normal where it doesn't apply.
+/// Checks for number 8. If it doesn't apply, returns the normal of the plane, negated for the long way.
 fn check_plane(q: &Question) -> Result<Vector, u16> {
     let (q1, q2) = (square(q.position1), square(q.position2));
     let h = triangle::cross(q.position1, q.position2);
@@ -87,7 +86,7 @@ fn check_plane(q: &Question) -> Result<Vector, u16> {
     Ok(triangle::normal(h, hh, q.way == 1))
 }
 
-/// Numbers 9 and 10, and the triangle where neither applies.
+/// Checks for numbers 9 and 10. If neither applies, returns the triangle.
 fn check_triangle(q: &Question) -> Result<Triangle, u16> {
     let (r1, r2) = (square(q.position1).sqrt(), square(q.position2).sqrt());
     let chord = triangle::chord(q.position1, q.position2);
@@ -104,7 +103,7 @@ fn check_triangle(q: &Question) -> Result<Triangle, u16> {
     Ok(Triangle { lambda, semiperimeter, chord, rho, sigma: sigma_square.sqrt() })
 }
 
-/// What an accepted question becomes.
+/// Builds the problem of an accepted question.
 fn problem(q: &Question, normal: Vector, triangle: Triangle) -> Problem {
     let (r1, r2) = (square(q.position1).sqrt(), square(q.position2).sqrt());
     Problem {
@@ -124,7 +123,7 @@ fn problem(q: &Question, normal: Vector, triangle: Triangle) -> Problem {
 }
 
 impl Problem {
-    /// The 22 words of a verdict: four whole numbers, then the bits of eighteen floats.
+    /// Returns the 22 words of a verdict: four whole numbers, then the bits of eighteen floats.
     pub fn words(&self) -> Vec<u64> {
         let whole = [self.job.into(), self.revision.into(), self.revolutions.into(), self.long.into()];
         let t = &self.triangle;
@@ -135,7 +134,7 @@ impl Problem {
     }
 }
 
-/// The bits of a float, with one pattern for every NaN.
+/// Returns the bits of a float, with the same pattern for every NaN.
 fn bits(x: f64) -> u64 {
     if x.is_nan() {
         0x7FF8_0000_0000_0000
@@ -144,7 +143,7 @@ fn bits(x: f64) -> u64 {
     }
 }
 
-/// The line of a verdict: a refusal's number, or 0 and the words of the problem.
+/// Returns the line of a verdict: the number of the refusal, or 0 and the words of the problem.
 pub fn line(verdict: Result<Problem, u16>) -> String {
     match verdict {
         Err(number) => number.to_string(),

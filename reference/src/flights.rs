@@ -14,10 +14,10 @@ const SIGN: u64 = 1 << 63;
 const INFINITY: u64 = 0x7FF0_0000_0000_0000;
 const QUIET: u64 = INFINITY | 1 << 51;
 
-/// What is handed to the velocities: the bits of the floats, which may be any patterns, and k.
+/// The input of the velocity step: the bits of the floats, which may be any patterns, and k.
 #[derive(Clone, Copy, Debug, PartialEq, Eq)]
 pub struct Case {
-    /// mu, lambda, semiperimeter, chord, rho, sigma, both radii, then normal, unit 1 and unit 2.
+    /// In this order: mu, lambda, semiperimeter, chord, rho, sigma, both radii, the normal, unit 1 and unit 2.
     pub floats: [u64; FLOATS],
     pub k: i64,
 }
@@ -44,7 +44,7 @@ impl Case {
         }
     }
 
-    /// The bits of the floats and k, each little-endian.
+    /// Returns the bits of the floats and k, each little-endian.
     pub fn frame(&self) -> [u8; FRAME] {
         let mut frame = [0; FRAME];
         let words = self.floats.into_iter().chain([self.k as u64]);
@@ -54,7 +54,7 @@ impl Case {
         frame
     }
 
-    /// The bits of v1 and v2 by component, with one pattern for every NaN.
+    /// Returns the bits of v1 and v2 by component, with the same pattern for every NaN.
     pub fn line(&self) -> String {
         let components = self.flight().velocities().concat();
         let word = |x: &f64| format!("{:016x}", if x.is_nan() { QUIET } else { x.to_bits() });
@@ -62,7 +62,7 @@ impl Case {
     }
 }
 
-/// Every case of the comparison.
+/// Returns every case of the comparison.
 pub fn flights() -> Vec<Case> {
     let mut r = Random::new(10);
     let mut all = sound(&mut r);
@@ -70,7 +70,8 @@ pub fn flights() -> Vec<Case> {
     all
 }
 
-/// Every third accepted problem, each at three places.
+/// Returns every third accepted problem of the entrance list, each at three places: a random one, a random
+/// station, and an end of the range or x = 1.
 fn sound(r: &mut Random) -> Vec<Case> {
     let accepted = questions::cases().into_iter().filter_map(|c| judge(&c.bytes, c.room.into()).ok());
     let mut all = Vec::new();
@@ -85,7 +86,8 @@ fn sound(r: &mut Random) -> Vec<Case> {
     all
 }
 
-/// Floats of any bits, odd ones, or ones of middling size with few odd ones among them.
+/// Returns one of three mixtures, chosen by `i`: random bits; random bits and special values; or floats of
+/// moderate size with a few special values.
 fn garbage(i: u32, r: &mut Random) -> [u64; FLOATS] {
     std::array::from_fn(|_| match i % 3 {
         0 => r.word(),
@@ -96,7 +98,7 @@ fn garbage(i: u32, r: &mut Random) -> [u64; FLOATS] {
     })
 }
 
-/// Zeros, subnormals, the least and greatest normal numbers, infinities and NaN, of both signs.
+/// Draws a special value of either sign: a zero, a subnormal, the least or greatest normal number, 1, an infinity or a NaN.
 fn odd(r: &mut Random) -> u64 {
     let nan = [INFINITY + 1, QUIET - 1, QUIET, QUIET + 1, SIGN - 1];
     let rest = [0, 1, r.bits(52), (1 << 52) - 1, 1 << 52, 1f64.to_bits(), INFINITY - 1, INFINITY];
@@ -104,13 +106,13 @@ fn odd(r: &mut Random) -> u64 {
     all[r.below(all.len() as u64) as usize] | (r.word() & SIGN)
 }
 
-/// Of an exponent from −40 to 40, seldom negative.
+/// Draws a float with an exponent from −40 to 40. One in eight is negative.
 fn middling(r: &mut Random) -> u64 {
     let sign = if r.below(8) == 0 { SIGN } else { 0 };
     sign | (1023 - 40 + r.below(81)) << 52 | r.bits(52)
 }
 
-/// Of any size.
+/// Draws a k of any size, sometimes 0 or an end of the i64 range.
 fn any_k(r: &mut Random) -> i64 {
     match r.below(16) {
         0 => i64::MIN,
@@ -151,7 +153,7 @@ mod tests {
         assert_eq!(nan.line(), ["7ff8000000000000"; 6].join(" "));
     }
 
-    /// mu = 2, L = 0, s = 4, ρ = 0, σ = 1, x = 1/2: γ = 2, y = 1, a = −1/2, b = 1/2.
+    /// For mu = 2, L = 0, s = 4, ρ = 0, σ = 1 and x = 1/2, the steps give γ = 2, y = 1, a = −1/2 and b = 1/2.
     #[test]
     fn a_worked_case() {
         let floats = [2.0, 0.0, 4.0, 9.0, 0.0, 1.0, 1.0, 2.0, 0.0, 0.0, 1.0, 1.0, 0.0, 0.0, 0.0, 1.0, 0.0];

@@ -1,12 +1,12 @@
 //! Two-body motion by Kepler's equation in universal variables, for every conic and any number of
-//! revolutions. It knows nothing of the solver's rules: it says where a flight really ends.
+//! revolutions. It doesn't use the solver's rules, so it shows independently where a flight really ends.
 
 use crate::triangle::square;
 use crate::wire::Vector;
 
-/// Below this size of alpha·chi² the universal functions come from their series.
+/// If the size of alpha·chi² is below this limit, the universal functions are computed from their series.
 const SERIES: f64 = 1.0;
-/// More than Newton's steps and halvings ever take together.
+/// A limit on the iterations. Newton's steps and halvings together never need this many.
 const STEPS: u32 = 2000;
 
 #[derive(Clone, Copy, Debug, PartialEq)]
@@ -15,14 +15,14 @@ pub struct State {
     pub velocity: Vector,
 }
 
-/// What the motion keeps: the radius at the start, sigma = r·v/√mu there, and alpha = 1/a.
+/// The constants of the motion: the radius at the start, sigma = r·v/√mu at the start, and alpha = 1/a.
 struct Orbit {
     radius: f64,
     sigma: f64,
     alpha: f64,
 }
 
-/// The state after a time, which may be negative.
+/// Returns the state after a time, which may be negative.
 pub fn propagate(start: State, mu: f64, time: f64) -> State {
     if time < 0.0 {
         return reversed(propagate(reversed(start), mu, -time));
@@ -49,7 +49,7 @@ pub fn dot(a: Vector, b: Vector) -> f64 {
 }
 
 impl Orbit {
-    /// √mu times the time that chi takes. It grows with chi: its derivative is the radius.
+    /// Returns √mu times the flight time at chi. It grows with chi, because its derivative is the radius.
     fn time_at(&self, chi: f64) -> f64 {
         let [_, u1, u2, u3] = universal(self.alpha, chi);
         self.radius * u1 + self.sigma * u2 + u3
@@ -60,14 +60,14 @@ impl Orbit {
         self.radius * u0 + self.sigma * u1 + u2
     }
 
-    /// The chi of a time from 0 on (times √mu): Newton's steps, and a halving where one leaves the
-    /// bracket.
+    /// Returns the chi at which √mu times the flight time is `wanted`, which is at least 0. Each iteration
+    /// is a Newton step, or a halving of the bracket if Newton's step would leave it.
     fn chi(&self, wanted: f64) -> f64 {
         let (mut low, mut high) = (0.0, self.beyond(wanted));
         let mut chi = 0.5 * high;
         for _ in 0..STEPS {
             let error = self.time_at(chi) - wanted;
-            // a time past all floats, or of two that cancel, is beyond
+            // A time that overflows, or that is a NaN because two infinities cancel, counts as too long.
             *(if error < 0.0 { &mut low } else { &mut high }) = chi;
             let newton = chi - error / self.radius_at(chi);
             let inside = low < newton && newton < high;
@@ -80,7 +80,7 @@ impl Orbit {
         chi
     }
 
-    /// A chi that takes the wanted time or more.
+    /// Returns a chi at which √mu times the flight time isn't below `wanted`.
     fn beyond(&self, wanted: f64) -> f64 {
         let mut chi = self.radius.sqrt();
         while self.time_at(chi) < wanted {
@@ -90,7 +90,7 @@ impl Orbit {
     }
 }
 
-/// U0 to U3 of chi.
+/// Returns the universal functions U0 to U3 of chi.
 fn universal(alpha: f64, chi: f64) -> [f64; 4] {
     let z = alpha * chi * chi;
     if z.abs() < SERIES {
@@ -107,7 +107,7 @@ fn universal(alpha: f64, chi: f64) -> [f64; 4] {
     [cosine, u1, 2.0 * half * half / alpha.abs(), (chi - u1) / alpha]
 }
 
-/// The Stumpff function 1/n! − z/(n + 2)! + z²/(n + 4)! − …, for a z of size up to 1.
+/// Returns the Stumpff function 1/n! − z/(n + 2)! + z²/(n + 4)! − …, for z of size up to 1.
 fn stumpff(z: f64, n: u32) -> f64 {
     let factorial: f64 = (1..=n).map(f64::from).product();
     let quotient = |i: u32| -z / f64::from((n + 2 * i + 1) * (n + 2 * i + 2));

@@ -1,4 +1,4 @@
-//! The physical check of a solver's answers: does each flight arrive? Nothing is compared to the bit.
+//! The physical check of a solver's answers: does each flight arrive? It measures misses and doesn't compare bits.
 
 use crate::entrance::{judge, ROOM};
 use crate::kepler::{propagate, State};
@@ -8,7 +8,7 @@ use crate::time::{time_at, x_of};
 use crate::triangle::{square, wanted_time};
 use crate::wire::{Question, Vector, QUESTION_SIZE};
 
-/// What is missed by how much, over the size of what is missed.
+/// The measured misses. Each is divided by the size of the expected vector.
 const MISSES: [&str; 6] = [
     "r2, from r1 and v1 after the time",
     "v2, from r1 and v1 after the time",
@@ -22,7 +22,7 @@ const SHARES: [(&str, f64); 5] =
     [("median", 0.5), ("90 %", 0.9), ("99 %", 0.99), ("99.9 %", 0.999), ("max", 1.0)];
 const LARGEST: usize = 5;
 
-/// One entry of an answer.
+/// One entry of an answer, with its misses.
 struct Landing {
     slot: usize,
     question: Question,
@@ -30,7 +30,7 @@ struct Landing {
     misses: [f64; MISSES.len()],
 }
 
-/// The distribution of every miss over all entries, and the entries that miss r2 by most.
+/// Reports the distribution of every miss over all entries, and the entries that miss r2 by the most.
 pub fn report(questions: &[u8], answers: &[u8]) -> String {
     let mut all = landings(questions, answers);
     let mut text = format!("entries: {}\n{:38}", all.len(), "");
@@ -46,7 +46,8 @@ pub fn report(questions: &[u8], answers: &[u8]) -> String {
     text
 }
 
-/// The miss number `i` that a share of the sorted entries doesn't exceed.
+/// Returns the value of miss number `i` that the given share of the entries doesn't exceed. The entries are
+/// sorted by that miss.
 fn ranked(sorted: &[Landing], i: usize, share: f64) -> f64 {
     let rank = (share * sorted.len() as f64).ceil() as usize;
     sorted.get(rank.saturating_sub(1)).map_or(f64::NAN, |l| l.misses[i])
@@ -90,14 +91,14 @@ impl Landing {
     }
 }
 
-/// The seconds that the place k takes; NaN where it is void.
+/// Returns the seconds that the place k takes, or NaN if the question is refused or the place is void.
 fn time_of(q: &Question, k: i64) -> f64 {
     let Ok(p) = judge(&q.write(), ROOM) else { return f64::NAN };
     let time = time_at(p.triangle.lambda, k, p.revolutions);
     time.map_or(f64::NAN, |t| t / wanted_time(p.mu, p.triangle.semiperimeter, 1.0))
 }
 
-/// By how much the position and the velocity miss the expected ones, over their sizes.
+/// Returns by how much the position and the velocity miss the expected ones, divided by the sizes of the expected ones.
 fn misses(found: State, expected: State) -> [f64; 2] {
     let apart = |a: Vector, b: Vector| square(std::array::from_fn(|i| a[i] - b[i])).sqrt() / square(b).sqrt();
     [apart(found.position, expected.position), apart(found.velocity, expected.velocity)]

@@ -1,5 +1,5 @@
-//! The independent second program. It is written from the scope documents alone and shares no code
-//! with the proved crates: where the two agree bit for bit, they agree for different reasons.
+//! The independent second program. It is written from the scope documents alone (01 and 02) and shares no code with
+//! the proved crates. The two programs are compared: if they agree bit for bit, they agree for different reasons.
 
 pub mod angle;
 pub mod board;

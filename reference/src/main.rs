@@ -162,7 +162,7 @@ fn write_told(out: &mut impl Write, told: fn(&[u8]) -> Option<String>) -> std::i
     out.write_all(lines.as_bytes())
 }
 
-/// All of standard input.
+/// Reads all of standard input.
 fn input() -> std::io::Result<Vec<u8>> {
     let mut bytes = Vec::new();
     std::io::stdin().read_to_end(&mut bytes)?;

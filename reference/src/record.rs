@@ -1,5 +1,5 @@
-//! What is written for a question: an answer, kind 2, or a refusal, kind 3, little-endian, length first
-//! and then kind.
+//! The record that is written for a question: an answer (kind 2) or a refusal (kind 3), little-endian, with
+//! the length first and then the kind.
 
 use crate::entrance::ROOM;
 use crate::solve::{solve, Entry};
@@ -8,13 +8,13 @@ use crate::wire::{part, Question, QUESTION_SIZE};
 pub const ANSWER_KIND: u16 = 2;
 pub const REFUSED_KIND: u16 = 3;
 
-/// The bytes before the first entry, the whole of a refusal, and the bytes of one entry. The length
-/// doesn't count its own four.
+/// The size of the part before the first entry, which is also the size of a refusal; the size of an entry;
+/// and the size of the length field, which the length doesn't count.
 pub const HEAD: usize = 16;
 pub const ENTRY: usize = 64;
 pub const LENGTH_SIZE: usize = 4;
 
-/// The fields of a record.
+/// The fields of a record. The outcome is the entries of an answer or the number of a refusal.
 #[derive(Clone, Debug, PartialEq)]
 pub struct Record {
     pub job: u32,
@@ -23,7 +23,7 @@ pub struct Record {
 }
 
 impl Record {
-    /// The record of a slot of a question's bytes. Number 1 doesn't say whose question it is.
+    /// Returns the record for a slot. With number 1, its job and revision are 0.
     pub fn reply(slot: &[u8]) -> Record {
         let outcome = solve(slot, ROOM);
         let (job, revision) = match (Question::read(slot), &outcome) {
@@ -48,7 +48,7 @@ impl Record {
         bytes
     }
 
-    /// The fields of `bytes`; none where they are no record.
+    /// Reads the fields of `bytes`. Returns None if they aren't a record.
     pub fn read(bytes: &[u8]) -> Option<Record> {
         let (head, rest) = bytes.split_at_checked(HEAD)?;
         let length = u32::from_le_bytes(part(head, 0));
@@ -83,12 +83,13 @@ fn read_entry(bytes: &[u8]) -> Entry {
     }
 }
 
-/// The records of all slots of the input; the last slot may be short.
+/// Returns the records for all slots of the input. The last slot may be short.
 pub fn replies(input: &[u8]) -> impl Iterator<Item = Vec<u8>> + '_ {
     input.chunks(QUESTION_SIZE).map(|slot| Record::reply(slot).write())
 }
 
-/// The bytes of each record by its length; what is too short for that is the last.
+/// Splits the bytes into records by their lengths. If the last bytes are too short for their length, they
+/// form the last part.
 pub fn split(mut bytes: &[u8]) -> Vec<&[u8]> {
     let mut all = Vec::new();
     while !bytes.is_empty() {

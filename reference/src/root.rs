@@ -1,12 +1,12 @@
-//! The square root, by the hardware, and the operands on which it is compared.
+//! The square root, computed by the hardware, and the operands on which it is compared.
 
 use crate::random::Random;
 
-/// What stands for a refused root: a NaN's pattern, which no root has.
+/// Represents a refused root. It is the pattern of a NaN, which no root has.
 pub const REFUSED: u64 = u64::MAX;
 
-/// The bits of the root of the f64 with the bits `b`. Of a zero, that zero; of a positive finite
-/// number, the nearest f64; negative numbers, infinities and NaN are refused.
+/// Returns the bits of the square root of the f64 with the bits `b`. The root of a zero is that same zero, with its
+/// sign. The root of a positive finite number is the nearest f64. Negative numbers, infinities and NaN are refused.
 pub fn root_bits(b: u64) -> u64 {
     let x = f64::from_bits(b);
     if x == 0.0 || (x > 0.0 && x.is_finite()) {
@@ -21,7 +21,7 @@ const INFINITY: u64 = 0x7FF0_0000_0000_0000;
 const GREATEST: u64 = INFINITY - 1;
 const LEAST_NORMAL: u64 = 1 << 52;
 
-/// Every operand of the comparison, in a fixed order.
+/// Returns every operand of the comparison, in a fixed order.
 pub fn operands() -> Vec<u64> {
     let mut r = Random::new(2);
     let mut all = ends();
@@ -36,7 +36,7 @@ pub fn operands() -> Vec<u64> {
     all
 }
 
-/// The zeros, the ends of each range of patterns, and their neighbours, of both signs.
+/// Returns the zeros, 1, the ends of each range of bit patterns, and their neighbours, with both signs.
 fn ends() -> Vec<u64> {
     let one = 1f64.to_bits();
     let around = [0, 1, 2, LEAST_NORMAL, one, GREATEST, INFINITY, INFINITY | (1 << 51), SIGN - 1];
@@ -44,14 +44,14 @@ fn ends() -> Vec<u64> {
     near.flat_map(|b| [b, b | SIGN]).collect()
 }
 
-/// 2^-1074 to 2^1023.
+/// Returns 2^-1074 to 2^1023.
 fn powers_of_two() -> Vec<u64> {
     let subnormal = (0..52).map(|i| 1u64 << i);
     let normal = (1..2047).map(|e| e << 52);
     subnormal.chain(normal).collect()
 }
 
-/// Six numbers of each exponent, the ends of the binade and four of no pattern.
+/// Returns six numbers for each exponent field: the least above the power of two, the greatest, and four random ones.
 fn every_exponent(r: &mut Random) -> Vec<u64> {
     (0..2047u64)
         .flat_map(|e| {
@@ -62,7 +62,7 @@ fn every_exponent(r: &mut Random) -> Vec<u64> {
         .collect()
 }
 
-/// A number times four to a power that keeps it a normal f64.
+/// Multiplies a number by a random power of four, and keeps it a normal f64.
 fn times_power_of_four(x: f64, r: &mut Random) -> u64 {
     let exponent = (x.to_bits() >> 52) as i64;
     let steps = r.bits(9) as i64 - 256;
@@ -70,7 +70,7 @@ fn times_power_of_four(x: f64, r: &mut Random) -> u64 {
     (x.to_bits() & (LEAST_NORMAL - 1)) | (shifted as u64) << 52
 }
 
-/// Squares of whole numbers of at most 26 bits, which have exact roots, and both neighbours.
+/// Returns squares of whole numbers up to 2^26, which have exact roots, times powers of four, and both neighbours of each.
 fn near_squares(r: &mut Random) -> Vec<u64> {
     (0..1000)
         .flat_map(|_| {
@@ -81,8 +81,8 @@ fn near_squares(r: &mut Random) -> Vec<u64> {
         .collect()
 }
 
-/// Operands whose roots lie close to the middle of two neighbouring f64s: the squares of middles,
-/// rounded, and both neighbours.
+/// Returns operands whose roots are close to the middle between two neighbouring f64s: the rounded squares
+/// of these middles, times powers of four, and both neighbours of each.
 fn near_middles(r: &mut Random) -> Vec<u64> {
     (0..1000)
         .flat_map(|_| {

@@ -1,5 +1,4 @@
-//! The answer to a question: the entrance, the crossings, and the velocities at the chosen end of each
-//! crossing's bracket.
+//! Answers a question: the entrance checks, the crossings, and the velocities at the chosen end of each crossing's bracket.
 
 use crate::entrance::{judge, Problem};
 use crate::sweep::{crossings, Bracket, Crossings, Walk};
@@ -7,7 +6,7 @@ use crate::time::time_at;
 use crate::velocity::Flight;
 use crate::wire::Vector;
 
-/// What an answer tells of one crossing: its bracket, whether the upper end is chosen, and v1 and v2 there.
+/// An answer's entry for one crossing: its bracket, whether the upper end is chosen, and v1 and v2 at the chosen end.
 #[derive(Clone, Copy, Debug, PartialEq)]
 pub struct Entry {
     pub lower: i64,
@@ -16,8 +15,7 @@ pub struct Entry {
     pub velocities: [Vector; 2],
 }
 
-/// The entries that answer a question's bytes, for an answer buffer of `room` bytes, or the number of
-/// its refusal.
+/// Returns the entries that answer a question's bytes, for an answer buffer of `room` bytes, or the number of the refusal.
 pub fn solve(bytes: &[u8], room: usize) -> Result<Vec<Entry>, u16> {
     let problem = judge(bytes, room)?;
     let found = crossings(problem.triangle.lambda, problem.revolutions, problem.wanted_time);
@@ -25,7 +23,7 @@ pub fn solve(bytes: &[u8], room: usize) -> Result<Vec<Entry>, u16> {
     check_velocities(found.brackets.iter().map(|b| entry(&problem, b)).collect())
 }
 
-/// Numbers 11 to 13.
+/// Checks for numbers 11 to 13.
 fn check_crossings(found: &Crossings) -> Result<(), u16> {
     match (found.walk, found.brackets.is_empty()) {
         (Walk::Timed, true) => Err(11),
@@ -35,7 +33,7 @@ fn check_crossings(found: &Crossings) -> Result<(), u16> {
     }
 }
 
-/// Number 14, and the entries where it doesn't apply.
+/// Checks for number 14. If it doesn't apply, returns the entries.
 fn check_velocities(entries: Vec<Entry>) -> Result<Vec<Entry>, u16> {
     let mut components = entries.iter().flat_map(|e| e.velocities.concat());
     if components.any(|x| !x.is_finite()) {
@@ -51,8 +49,8 @@ fn entry(p: &Problem, b: &Bracket) -> Entry {
     Entry { lower: b.lower, halvings: b.halvings, upper_chosen, velocities }
 }
 
-/// Whether the upper end's time is nearer to the wanted one; a tie takes the lower. Both ends have times:
-/// a void place is no end of a bracket.
+/// Reports whether the upper end's time is nearer to the wanted time. On a tie the lower end is chosen.
+/// Both ends have times, because a void place never becomes an end of a bracket.
 fn chooses_upper(b: &Bracket, wanted: f64, time: impl Fn(i64) -> Option<f64>) -> bool {
     let error = |k: i64| (time(k).expect("a bracket's ends have times") - wanted).abs();
     error(b.upper) < error(b.lower)

@@ -1,12 +1,11 @@
-//! The velocities at both positions, by the document's rule. Every operation is rounded once, in the
-//! order written there.
+//! The velocities at both positions (01, Velocities). Every operation is rounded once, in the order written there.
 
 use crate::entrance::Problem;
 use crate::time::x_of;
 use crate::triangle::{cross, Triangle};
 use crate::wire::Vector;
 
-/// What the velocities depend on: parts of a problem, and the place's k.
+/// The input of the velocity step: parts of a problem, and the place's k.
 #[derive(Clone, Copy, Debug)]
 pub struct Flight {
     pub mu: f64,
@@ -33,7 +32,7 @@ impl Flight {
         }
     }
 
-    /// v1 and v2, whatever the inputs; a refused root counts as NaN.
+    /// Returns v1 and v2, for any input. A refused root counts as NaN.
     pub fn velocities(&self) -> [Vector; 2] {
         let Triangle { lambda, semiperimeter, rho, sigma, .. } = self.triangle;
         let x = x_of(self.k);
@@ -50,14 +49,15 @@ impl Flight {
         ]
     }
 
-    /// radial·u + transverse·t by component, where t = n × u.
+    /// Returns radial·u + transverse·t by component, where t = n × u.
     fn combine(&self, radial: f64, transverse: f64, unit: Vector) -> Vector {
         let across = cross(self.normal, unit);
         std::array::from_fn(|i| radial * unit[i] + transverse * across[i])
     }
 }
 
-/// The root, by the hardware; NaN where the operand is refused. A zero of either sign is its own root.
+/// Returns the square root, computed by the hardware, or NaN if the operand is refused. The root of a zero
+/// is that same zero, with its sign.
 fn root(a: f64) -> f64 {
     if a >= 0.0 && a.is_finite() {
         a.sqrt()

@@ -1,4 +1,4 @@
-//! A question on the wire: 82 bytes, little-endian, length first and then kind.
+//! A question on the wire (01, Records on the wire): 82 bytes, little-endian, with the length first and then the kind.
 
 pub type Vector = [f64; 3];
 
@@ -6,7 +6,7 @@ pub const QUESTION_SIZE: usize = 82;
 pub const QUESTION_LENGTH: u32 = 78;
 pub const QUESTION_KIND: u16 = 1;
 
-/// Where each field begins. The eight floats follow each other from `FLOATS` on.
+/// The offset of each field. The eight floats follow each other from `FLOATS` on.
 pub const LENGTH: usize = 0;
 pub const KIND: usize = 4;
 pub const JOB: usize = 6;
@@ -16,11 +16,11 @@ pub const WAY: usize = 16;
 pub const SPARE: usize = 17;
 pub const FLOATS: usize = 18;
 
-/// The places of the pull and the time among the eight floats; the two positions come before.
+/// The indices of mu and the time among the eight floats. The two positions come before them.
 pub const MU: usize = 6;
 pub const TIME: usize = 7;
 
-/// The fields of a question, in the order of the wire, whatever their values.
+/// The fields of a question in the order of the wire. They may have any values.
 #[derive(Clone, Copy, Debug)]
 pub struct Question {
     pub length: u32,
@@ -37,7 +37,7 @@ pub struct Question {
 }
 
 impl Question {
-    /// The fields of `bytes`; none where the size isn't 82.
+    /// Reads the fields of `bytes`. Returns None if the size isn't 82.
     pub fn read(bytes: &[u8]) -> Option<Question> {
         if bytes.len() != QUESTION_SIZE {
             return None;
@@ -57,7 +57,7 @@ impl Question {
         })
     }
 
-    /// The 82 bytes of the fields.
+    /// Returns the 82 bytes of the fields.
     pub fn write(&self) -> [u8; QUESTION_SIZE] {
         let mut bytes = [0; QUESTION_SIZE];
         put(&mut bytes, LENGTH, &self.length.to_le_bytes());
@@ -77,12 +77,12 @@ impl Question {
     }
 }
 
-/// The `N` bytes from `at` on.
+/// Returns the `N` bytes from `at` on.
 pub fn part<const N: usize>(bytes: &[u8], at: usize) -> [u8; N] {
     std::array::from_fn(|i| bytes[at + i])
 }
 
-/// The float number `i` of the eight.
+/// Returns float number `i` of the eight.
 fn float(bytes: &[u8], i: usize) -> f64 {
     f64::from_le_bytes(part(bytes, FLOATS + 8 * i))
 }
@@ -92,14 +92,14 @@ pub fn put(bytes: &mut [u8], at: usize, field: &[u8]) {
     bytes[at..at + field.len()].copy_from_slice(field);
 }
 
-/// The bytes with `field` written over those from `at` on.
+/// Returns the bytes with `field` written over those from `at` on.
 pub fn with(bytes: &[u8], at: usize, field: &[u8]) -> Vec<u8> {
     let mut other = bytes.to_vec();
     put(&mut other, at, field);
     other
 }
 
-/// Writes `bits` over the float number `i` of the eight.
+/// Writes `bits` over float number `i` of the eight.
 pub fn put_float(bytes: &mut [u8], i: usize, bits: u64) {
     put(bytes, FLOATS + 8 * i, &bits.to_le_bytes());
 }

@@ -5,7 +5,7 @@ fn state(position: Vector, velocity: Vector) -> State {
     State { position, velocity }
 }
 
-/// The largest difference of a component.
+/// Returns the largest difference between the components of two states.
 fn apart(a: State, b: State) -> f64 {
     let both = |s: State| [s.position, s.velocity].concat();
     both(a).iter().zip(both(b)).map(|(x, y)| (x - y).abs()).fold(0.0, f64::max)
@@ -20,8 +20,8 @@ fn a_quarter_of_a_circle() {
     }
 }
 
-/// From a low orbit around the Earth to the geostationary one, in half a period of the ellipse between;
-/// then on through whole revolutions.
+/// A flight from a low orbit around the Earth to the geostationary orbit takes half a period of the ellipse
+/// between them. The test also adds whole revolutions.
 #[test]
 fn a_hohmann_transfer() {
     let (mu, low, high) = (398600.4418f64, 6678.0, 42164.0);
@@ -35,7 +35,7 @@ fn a_hohmann_transfer() {
     }
 }
 
-/// Kepler's equation of the hyperbola, M = e·sinh H − H, from the pericentre.
+/// Compares with Kepler's equation for the hyperbola, M = e·sinh H − H, starting at the pericentre.
 #[test]
 fn a_hyperbola() {
     for (a, e) in [(1.0, 2.0), (0.5, 1.001), (3.0, 40.0)] {
@@ -53,8 +53,8 @@ fn a_hyperbola() {
     }
 }
 
-/// Barker's equation of the parabola of pericentre 1: t = √2·(w + w³/3) at w, the tangent of half the
-/// true anomaly.
+/// Compares with Barker's equation for the parabola with pericentre 1: t = √2·(w + w³/3), where w is the
+/// tangent of half the true anomaly.
 #[test]
 fn a_parabola() {
     let start = state([1.0, 0.0, 0.0], [0.0, 2f64.sqrt(), 0.0]);
@@ -66,7 +66,7 @@ fn a_parabola() {
     }
 }
 
-/// Back to the start, from ellipses, near parabolas and hyperbolas, inwards and outwards.
+/// Flies forward and then back to the start, on ellipses, near-parabolas and hyperbolas, starting inwards and outwards.
 #[test]
 fn time_reversed() {
     for speed in [0.3, 0.9, 1.2, 1.414, 1.415, 2.0, 5.0] {
@@ -82,7 +82,7 @@ fn time_reversed() {
     }
 }
 
-/// No time changes nothing, and energy and angular momentum stay.
+/// A time of 0 changes nothing, and every flight keeps its energy and its angular momentum.
 #[test]
 fn what_the_motion_keeps() {
     let start = state([1.0, 0.2, -0.3], [0.1, 1.1, 0.2]);
@@ -96,7 +96,7 @@ fn what_the_motion_keeps() {
     }
 }
 
-/// The series and the closed forms agree where one takes over from the other.
+/// The series and the closed forms agree at the limit between them.
 #[test]
 fn both_forms_of_the_universal_functions() {
     for alpha in [1.0f64, -1.0, 0.01, -0.01] {

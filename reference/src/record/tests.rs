@@ -1,7 +1,7 @@
 use super::*;
 use crate::questions::document;
 
-/// The document's worked question and its whole output.
+/// 01's worked question and its whole output.
 #[test]
 fn the_document_s_bytes() {
     let expected = [0x0C, 0, 0, 0, 3, 0, 7, 0, 0, 0, 2, 0, 0, 0, 0x0B, 0];
@@ -9,7 +9,7 @@ fn the_document_s_bytes() {
     assert_eq!(all, expected);
 }
 
-/// Number 1 in all its ways is written without job and revision; the others keep them.
+/// Whatever its cause, number 1 is written with job 0 and revision 0. Other refusals keep both.
 #[test]
 fn whose_refusal_it_is() {
     let d = document();

@@ -9,7 +9,7 @@ fn solved(q: Question) -> Result<Vec<Entry>, u16> {
     solve(&q.write(), ROOM)
 }
 
-/// The document's triangle with the time that the place k takes.
+/// Returns a question with 01's triangle and the time that the place k takes.
 fn taking(k: i64, revolutions: u16) -> Question {
     let q = Question { revolutions, ..document() };
     let p = judge(&q.write(), ROOM).unwrap();
@@ -33,7 +33,7 @@ fn a_refusal_of_the_entrance_comes_first() {
     assert_eq!(solve(&document().write()[..81], ROOM), Err(1));
 }
 
-/// A quarter of the unit circle, where 1 − x² is s/2.
+/// A quarter of the unit circle. There 1 − x² is s/2.
 #[test]
 fn one_entry_without_whole_turns() {
     let entries =
@@ -56,13 +56,14 @@ fn two_entries_with_whole_turns_the_lower_first() {
     }
 }
 
-/// The same flight four times as far out, where times are eight times as long, in a share of its time.
+/// Returns the same flight four times as far out. Times are eight times as long there, and the new time is
+/// the given share of that.
 fn larger(q: Question, share: f64) -> Question {
     let [position1, position2] = [q.position1, q.position2].map(|p| p.map(|x| 4.0 * x));
     Question { position1, position2, time: 8.0 * q.time * share, ..q }
 }
 
-/// Past the first and the last station there is no crossing.
+/// Times beyond those of the first and the last station have no crossing.
 #[test]
 fn times_past_the_ends() {
     let longest = taking(LOWEST, 0);

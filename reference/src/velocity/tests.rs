@@ -10,7 +10,7 @@ fn near(v: Vector, w: Vector) -> bool {
     (0..3).all(|i| (v[i] - w[i]).abs() < 1e-6)
 }
 
-/// The k of the first change of sides, halved down to neighbours; the nearer of the two.
+/// Finds the first pair of stations on different sides, bisects it down to neighbouring places, and returns the nearer one.
 fn place(p: &Problem) -> i64 {
     let time = |k| time_at(p.triangle.lambda, k, p.revolutions).unwrap();
     let below = |k| time(k) < p.wanted_time;
@@ -29,7 +29,7 @@ fn place(p: &Problem) -> i64 {
     }
 }
 
-/// A quarter of the circle of radius 1, in π/2 s; and the other three quarters, the long way.
+/// A quarter of the circle of radius 1, in π/2 s, and the other three quarters, the long way, in 3π/2 s.
 #[test]
 fn a_circle() {
     for (way, time, turn) in [(0, FRAC_PI_2, 1.0), (1, 3.0 * FRAC_PI_2, -1.0)] {
@@ -41,7 +41,7 @@ fn a_circle() {
     }
 }
 
-/// Both velocities have the energy −mu·u/s of the orbit, where the triangle isn't too uneven.
+/// Both velocities have the energy −mu·u/s of the orbit, if the radii aren't too different.
 #[test]
 fn the_energy_of_the_orbit() {
     let problems = cases().into_iter().filter_map(|c| judge(&c.bytes, c.room.into()).ok());
