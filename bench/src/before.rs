@@ -1,4 +1,4 @@
-//! The proved code of an earlier commit, of today, and what both are measured by: one run, the same operands.
+//! Times the proved code of an earlier commit, that of today, and the hardware or the reference, in one run on the same operands.
 
 use crate::questions::{self, COUNT, PROVED, REFERENCE, SORTS};
 use crate::sweeps::{self, Sweep};
@@ -7,7 +7,7 @@ use reference::places::Place;
 use std::io;
 use std::path::Path;
 
-/// Where bench/run keeps the earlier commit.
+/// The program of the earlier commit, in the clone that bench/run makes.
 const LAMBERT: &str = "target/before/target/bin/lambert";
 
 extern "C" {
@@ -50,7 +50,7 @@ pub fn time() -> io::Result<()> {
     Ok(())
 }
 
-/// The unit, ns or ms, and what the third function is.
+/// The unit, ns or ms, and the name of the third function.
 type Shown = (&'static str, &'static str);
 
 fn measure<T: Copy>(what: &str, shown: Shown, operands: &[T], functions: [&dyn Fn(T) -> u64; 3]) {

@@ -20,7 +20,7 @@ const USAGE: &str = "usage: bench time|compare|questions|before
   questions how many whole questions a second the proved program and the reference answer, and its memory
   before    the proved code of an earlier commit beside today's, on the same operands (bench/run before COMMIT)";
 
-/// What stands for a void place over the C interface.
+/// What the C interface returns for a void place.
 const VOID: u64 = u64::MAX;
 
 fn main() -> ExitCode {
@@ -68,7 +68,7 @@ fn report(what: &str, count: usize, [ours, theirs]: [f64; 2], (unit, other): (&s
     println!("  ratio      {:8.1}", ours / theirs);
 }
 
-/// The positive operands of the vectors.
+/// Returns the positive operands of the test vectors.
 fn positive() -> Vec<u64> {
     root::operands().into_iter().filter(|&b| b != 0 && root::root_bits(b) != root::REFUSED).collect()
 }
@@ -77,7 +77,7 @@ fn hardware(b: u64) -> u64 {
     f64::from_bits(b).sqrt().to_bits()
 }
 
-/// Answers the nanoseconds of a proved root.
+/// Times the square root. Returns the nanoseconds of a proved root.
 fn time_roots() -> f64 {
     let positive = positive();
     let times = timing::nanoseconds(&positive, [&proved::root_bits, &hardware]);
@@ -89,12 +89,12 @@ fn reference_bits(p: Place) -> u64 {
     time::time_at(f64::from_bits(p.lambda), p.k, p.m).map_or(VOID, f64::to_bits)
 }
 
-/// The places of the vectors that have a time.
+/// Returns the places of the test vectors that have a time.
 fn timed_places() -> Vec<Place> {
     places().into_iter().filter(|&p| reference_bits(p) != VOID).collect()
 }
 
-/// A place with a time takes four roots, and one more where there are whole revolutions.
+/// Times the places. The time at a place takes four square roots, and a fifth if there are whole revolutions. `root` is the time of one.
 fn time_places(root: f64) {
     let timed = timed_places();
     let roots = timed.iter().map(|p| 4 + u64::from(p.m > 0)).sum::<u64>() as f64 / timed.len() as f64;
@@ -107,7 +107,7 @@ fn time_places(root: f64) {
     );
 }
 
-/// Half of the operands are positive, so that half of the answers are numbers at the least.
+/// Compares square roots of random bits. Half of the operands have the sign bit cleared, since the root of a negative one is refused.
 fn compare_roots(count: u64) -> bool {
     let mut random = Random::new(7);
     for i in 0..count {
@@ -122,7 +122,7 @@ fn compare_roots(count: u64) -> bool {
     true
 }
 
-/// Lambdas in (-1, 1) and places over the whole range and a little beyond.
+/// Compares times for lambdas in (-1, 1) at places over the whole range and a little beyond it.
 fn compare_places(count: u64) -> bool {
     let mut random = Random::new(11);
     for _ in 0..count {

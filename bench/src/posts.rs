@@ -1,4 +1,4 @@
-//! Posts to a board, by the C interface and by the reference.
+//! Posts to a board, with the proved code and with the reference.
 
 mod compare;
 mod time;
@@ -12,7 +12,7 @@ use reference::random::Random;
 use reference::record::Record;
 use reference::solve::Entry;
 
-/// What stands over the C interface for a record that is taken; a refusal is the number after its B.
+/// What the C interface returns for a record that the board takes. For a refusal it returns the number, 0 for B0 to 3 for B3.
 const TAKEN: u8 = 255;
 
 fn ours(board: &mut [u8], record: &[u8]) -> u8 {
@@ -23,7 +23,7 @@ fn theirs(board: &mut [u8], record: &[u8]) -> u8 {
     board::post(board, record).err().unwrap_or(TAKEN)
 }
 
-/// An answer with some entries of any velocities, or a refusal where there are none.
+/// Returns an answer with `entries` entries, whose velocities are random bits, or a refusal if `entries` is 0.
 fn record(job: u32, revision: u32, entries: u64, random: &mut Random) -> Vec<u8> {
     let mut entry = || {
         let velocities = [(); 2].map(|()| [(); 3].map(|()| f64::from_bits(random.word())));

@@ -1,4 +1,4 @@
-//! Whole questions, by the proved program and by the reference over one file, each as a process of its own.
+//! Times whole questions: the proved program and the reference run on the same file, each as its own process.
 
 use std::fs::{self, File};
 use std::io::{self, Read, Write};
@@ -14,15 +14,15 @@ const SEED: &str = "14";
 pub const PROVED: &str = "target/bin/lambert";
 pub const REFERENCE: &str = "reference/target/release/reference";
 
-/// A program and the words that make it answer questions.
+/// A program and the arguments with which it answers questions.
 pub type Program = (&'static str, &'static [&'static str]);
 pub const TODAY: [Program; 2] = [(PROVED, &[]), (REFERENCE, &["solve"])];
 
-/// What the reference calls a sort of questions, and what it is.
+/// The name that the reference has for each sort of questions, and a description.
 pub const SORTS: [(&str, &str); 2] =
     [("random", "of every sort, some damaged"), ("missions", "as missions ask them")];
 
-/// Runs both programs over each sort. Fails where one of them does, or where a byte of theirs differs.
+/// Runs both programs on each sort of questions. Fails if a program fails or if their records differ in a byte.
 pub fn time() -> io::Result<()> {
     let folder = Path::new("target/questions");
     SORTS.into_iter().try_for_each(|sort| time_sort(sort, folder))
@@ -38,7 +38,7 @@ fn time_sort((sort, what): (&str, &str), folder: &Path) -> io::Result<()> {
     Ok(())
 }
 
-/// Writes the questions of a sort to a file, and answers where.
+/// Writes the questions of a sort to a file in the folder. Returns its path.
 pub fn ask(sort: &str, folder: &Path) -> io::Result<PathBuf> {
     fs::create_dir_all(folder)?;
     let asked = folder.join(sort);
@@ -46,8 +46,8 @@ pub fn ask(sort: &str, folder: &Path) -> io::Result<PathBuf> {
     Ok(asked)
 }
 
-/// The least seconds of each program over the questions, over some rounds taken in turn. What program i writes
-/// is in the file i.
+/// Returns the seconds that each program needs for the questions, in its fastest round. The programs run in turn in each round, and
+/// program i writes to the file i.
 pub fn seconds<const N: usize>(asked: &Path, programs: &[Program; N], folder: &Path) -> io::Result<[f64; N]> {
     let mut best = [f64::INFINITY; N];
     for _ in 0..ROUNDS {
@@ -58,14 +58,14 @@ pub fn seconds<const N: usize>(asked: &Path, programs: &[Program; N], folder: &P
     Ok(best)
 }
 
-/// Whether the programs i and j wrote the same.
+/// Reports whether the programs i and j wrote the same bytes.
 pub fn same(folder: &Path, i: usize, j: usize) -> io::Result<bool> {
     let written = |i: usize| fs::read(folder.join(i.to_string()));
     Ok(written(i)? == written(j)?)
 }
 
-/// Runs a program over a file, with its output in another, and answers the seconds that it took. Words on
-/// standard error are a failure: a proved program cannot choose its exit status.
+/// Runs a program with one file as its input and another as its output. Returns the seconds that it took. Output on standard error
+/// counts as a failure, since a proved program cannot choose its exit status.
 fn run(program: &str, words: &[&str], from: &Path, to: &Path) -> io::Result<f64> {
     let mut command = Command::new(program);
     command.args(words).stdin(File::open(from)?).stdout(File::create(to)?).stderr(Stdio::piped());
@@ -79,7 +79,7 @@ fn run(program: &str, words: &[&str], from: &Path, to: &Path) -> io::Result<f64>
     Err(io::Error::other(format!("{program}: {}: {said}", done.status)))
 }
 
-/// The proved program's peak resident memory, asked when its last record came and it waits for more input.
+/// Returns the peak resident memory of the proved program, read after its last record has arrived and while it waits for more input.
 fn peak_memory(asked: Vec<u8>, size: usize) -> io::Result<String> {
     let mut child = Command::new(PROVED).stdin(Stdio::piped()).stdout(Stdio::piped()).spawn()?;
     let mut input = child.stdin.take().expect("it is piped");

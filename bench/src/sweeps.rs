@@ -1,14 +1,14 @@
-//! Whole sweeps, by the number that stands for one over the C interface.
+//! Whole sweeps, each reduced to one number as the C interface returns it.
 
 use crate::{proved, report, timing};
 use reference::random::Random;
 use reference::sweep::{crossings, Walk};
 use reference::time::{time_at, HIGHEST_TURNING, LOWEST, MOST_TURNS};
 
-/// A lambda, M and a wanted time.
+/// A lambda, the number of whole revolutions and a wanted time.
 pub type Sweep = (f64, u16, f64);
 
-/// A lambda over (-1, 1), with the time of some place as the wanted one.
+/// Returns a random lambda in (-1, 1) with the time of a random place as the wanted time, or 1 if that place is void.
 fn sweep(m: u16, random: &mut Random) -> Sweep {
     let lambda = 2.0 * random.fraction() - 1.0;
     let k = LOWEST + random.below((HIGHEST_TURNING - LOWEST) as u64) as i64;
@@ -29,7 +29,7 @@ pub fn theirs((lambda, m, wanted): Sweep) -> u64 {
     walk + found.brackets.len() as u64
 }
 
-/// The sweeps that are timed, by their sort.
+/// Returns the sweeps that are timed, without and with whole revolutions.
 pub fn sorts() -> [(&'static str, Vec<Sweep>); 2] {
     let mut random = Random::new(12);
     let without = (0..8).map(|_| sweep(0, &mut random)).collect();

@@ -1,11 +1,11 @@
-//! Times of several functions on the same operands, taken in turn so that noise meets them alike.
+//! Times several functions on the same operands. They run in turn, so that other work on the machine affects all of them alike.
 
 use std::hint::black_box;
 use std::time::Instant;
 
 pub const ROUNDS: usize = 25;
 
-/// The least time of a call in nanoseconds, over some rounds, for each function.
+/// Returns for each function the time of a call in nanoseconds: the average over the operands, in the fastest round.
 pub fn nanoseconds<T: Copy, const N: usize>(operands: &[T], functions: [&dyn Fn(T) -> u64; N]) -> [f64; N] {
     let mut best = [f64::INFINITY; N];
     for _ in 0..ROUNDS {

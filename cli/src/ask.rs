@@ -1,4 +1,4 @@
-//! `ask`: questions from words or from a CSV file to bytes. Where there is a mistake nothing is written.
+//! `ask`: writes questions as bytes, from options or from a CSV file. If there is a mistake, it writes nothing.
 
 mod fields;
 mod table;
@@ -8,7 +8,7 @@ use crate::stop::{tell, Stop};
 use crate::streams::{Input, Output};
 use crate::wire::Question;
 
-/// The options of a single question; those from the seventh on may be left out.
+/// The options of a single question. The last two are optional.
 const FIELDS: [&str; 8] = ["--r1", "--r2", "--mu", "--time", "--way", "--job", "--revolutions", "--revision"];
 
 pub fn run(words: &[String]) -> Result<u8, Stop> {
@@ -63,21 +63,21 @@ fn single(options: &Options) -> Result<Question, Stop> {
 const DEFAULT_REVISION: &str = "1";
 const DEFAULT_REVOLUTIONS: &str = "0";
 
-/// Says which gravitational parameter was taken, and of a body where it is from.
+/// Prints the gravitational parameter that is used and, if it was named by a body, its source.
 fn say_mu(text: &str, value: f64) {
     let source = fields::BODIES.iter().find(|(name, ..)| *name == text);
     let source = source.map(|(name, _, source)| format!(" ({name}, {source})")).unwrap_or_default();
     tell(&format!("mu {value:?} km^3/s^2{source}"));
 }
 
-/// Mistakes as they are found, each with its place.
+/// The mistakes found so far, each with the option or the line and column where it is.
 #[derive(Default)]
 struct Mistakes {
     list: Vec<String>,
 }
 
 impl Mistakes {
-    /// The most that are told.
+    /// The most mistakes that are printed.
     const TOLD: usize = 20;
 
     fn take<T: Default>(&mut self, place: &str, read: Result<T, String>) -> T {
@@ -87,7 +87,7 @@ impl Mistakes {
         })
     }
 
-    /// Stops with all mistakes, if there are any.
+    /// Stops the command with the mistakes, if there are any.
     fn stop(&self) -> Result<(), Stop> {
         let more = self.list.len().saturating_sub(Mistakes::TOLD);
         let mut told = self.list[..self.list.len() - more].join("\nlambert-cli: ");

@@ -1,4 +1,4 @@
-//! `board`: the outcome of each job's highest revision, in whatever order the records came.
+//! `board`: posts records to a board, which holds the outcome of each job's highest revision whatever the order of the records.
 
 mod posting;
 mod table;
@@ -11,8 +11,8 @@ use crate::wire::slots::{filled, Held, BOARD};
 use posting::Tally;
 use std::io::Read;
 
-/// Runs the command; 2 where an input could not be read to its end, and 1 where `--strict` asks. The output is
-/// opened once all is read.
+/// Runs the command and returns its status: 2 if an input could not be split into records up to its end, 1 if `--strict` is given
+/// and a record was refused or the board has a conflict. It opens the output after it has read all inputs.
 pub fn run(words: &[String]) -> Result<u8, Stop> {
     let options = Options::read(words, &["--strict", "--bytes"], &["--board", "-o"])?;
     let mut inputs = open(&options)?;
@@ -31,7 +31,7 @@ pub fn run(words: &[String]) -> Result<u8, Stop> {
     Ok(status(&board, &tally, options.has("--strict")))
 }
 
-/// The inputs that the records come from.
+/// Opens the inputs that the records come from.
 fn open(options: &Options) -> Result<Vec<Input>, Stop> {
     let none = options.files.is_empty();
     if options.value("--board") == Some("-") && (none || options.files.iter().any(|name| name == "-")) {
@@ -43,7 +43,8 @@ fn open(options: &Options) -> Result<Vec<Input>, Stop> {
     options.files.iter().map(|name| Input::open(Some(name))).collect()
 }
 
-/// A stored board. A post of no bytes changes none, and says whether it is one.
+/// Reads a stored board. To check that it is one, this function posts an empty record: that changes no board, and the number of the
+/// refusal is B0 exactly if the bytes are not a board.
 fn read(input: &mut Input) -> Result<Vec<u8>, Stop> {
     let Input { name, bytes, .. } = input;
     let mut board = Vec::new();

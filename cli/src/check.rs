@@ -1,4 +1,4 @@
-//! `check`: whether a file is well-formed, with its counts, or where it is not.
+//! `check`: prints the counts of a well-formed file, or where a file is not well-formed.
 
 use crate::options::Options;
 use crate::stop::Stop;

@@ -1,13 +1,13 @@
-//! CSV as RFC 4180 has it: fields in quotes where they need them, and doubled quotes within.
+//! CSV as in RFC 4180: a field is quoted if it needs to be, and quotes within it are doubled.
 
-/// A line's fields, with the number of the line that it begins on.
+/// The fields of a row, and the number of the line on which the row begins.
 #[derive(Debug, PartialEq)]
 pub struct Row {
     pub line: usize,
     pub fields: Vec<String>,
 }
 
-/// A field as it is written.
+/// Returns the text of a field, quoted if needed.
 pub fn field(text: &str) -> String {
     if text.contains(['"', ',', '\r', '\n']) {
         format!("\"{}\"", text.replace('"', "\"\""))
@@ -16,13 +16,13 @@ pub fn field(text: &str) -> String {
     }
 }
 
-/// A line as it is written.
+/// Returns the text of a row, with its line end.
 pub fn line(fields: &[String]) -> String {
     let fields: Vec<String> = fields.iter().map(|text| field(text)).collect();
     fields.join(",") + "\r\n"
 }
 
-/// The rows of a text, or the line with a mistake and what it is. Lines end with LF or CRLF.
+/// Reads the rows of a text. Lines end with LF or CRLF. For a mistake, returns its line number and a message.
 pub fn rows(text: &str) -> Result<Vec<Row>, (usize, String)> {
     let mut rest = text.strip_prefix('\u{feff}').unwrap_or(text);
     let (mut rows, mut line) = (Vec::new(), 1);
@@ -45,7 +45,7 @@ pub fn rows(text: &str) -> Result<Vec<Row>, (usize, String)> {
     Ok(rows)
 }
 
-/// The field that a text begins with, and what follows it: a comma, the end of the line or nothing.
+/// Returns the first field of a text and the rest of the text, which begins with a comma or a line end or is empty.
 fn next_field(text: &str) -> Result<(String, &str), &'static str> {
     let Some(quoted) = text.strip_prefix('"') else {
         let line = &text[..text.find('\n').unwrap_or(text.len())];

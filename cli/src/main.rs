@@ -1,5 +1,5 @@
-//! The command for people over the proved solver and the proved board. It computes no transfer and keeps no board
-//! itself: every record, and every change of a board, comes from `proved`.
+//! The command for people around the proved solver and the proved board. It does not compute transfers or change boards itself:
+//! the functions of `proved` do both.
 #![deny(unsafe_code)]
 
 mod ask;
@@ -24,7 +24,7 @@ mod words;
 use std::process::ExitCode;
 use stop::Stop;
 
-/// A command's name, its help and what runs it.
+/// The name of a command, its help text and the function that runs it.
 type Command = (&'static str, &'static str, fn(&[String]) -> Result<u8, Stop>);
 
 const COMMANDS: [Command; 6] = [

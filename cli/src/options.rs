@@ -1,4 +1,4 @@
-//! The words of a command: options, each at most once, and names of files.
+//! The arguments of a command: options, each at most once, and file names.
 
 use crate::stop::Stop;
 
@@ -8,7 +8,8 @@ pub struct Options {
 }
 
 impl Options {
-    /// Reads the words. `flags` stand alone; each of `valued` takes the word after it, or what follows its `=`.
+    /// Reads the arguments. The options in `flags` have no value. The value of an option in `valued` is the next argument, or the text
+    /// after its `=`.
     pub fn read(words: &[String], flags: &[&'static str], valued: &[&'static str]) -> Result<Options, Stop> {
         let mut options = Options { values: Vec::new(), files: Vec::new() };
         let mut words = words.iter();
@@ -49,7 +50,7 @@ impl Options {
         self.values.iter().find(|(option, _)| *option == name).map(|(_, value)| value.as_str())
     }
 
-    /// The one file that a command may be given.
+    /// Returns the file name, for a command that takes at most one.
     pub fn file(&self) -> Result<Option<&str>, Stop> {
         match &self.files[..] {
             [] => Ok(None),

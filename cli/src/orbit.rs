@@ -1,16 +1,16 @@
-//! What is read off an entry without any orbital mathematics: x of an end, the kind of orbit, a velocity's size.
+//! What follows from an entry without orbital mathematics: x of an end, the kind of orbit, the size of a velocity.
 
 use crate::wire::Entry;
 
-/// Places are counted in steps of 2^-32 of x.
+/// The place of x = 1: place k has x = k/2^32.
 const ONE: i64 = 1 << 32;
 
-/// k/2^32, which is exact for every k of the grid.
+/// Returns x = k/2^32. The result is exact for every k from the first station to the last.
 pub fn x_of(k: i64) -> f64 {
     k as f64 / ONE as f64
 }
 
-/// The kind of orbit at the chosen end.
+/// Returns the kind of orbit at the chosen end: an ellipse below x = 1, a parabola at x = 1, a hyperbola above.
 pub fn kind(entry: &Entry) -> &'static str {
     match entry.chosen().cmp(&ONE) {
         std::cmp::Ordering::Less => "ellipse",
@@ -27,7 +27,7 @@ pub fn end(entry: &Entry) -> &'static str {
     }
 }
 
-/// The size of a velocity, for a reader: it is no part of the record.
+/// Returns the size of a velocity, for display. It is not part of the record.
 pub fn size([x, y, z]: [f64; 3]) -> f64 {
     x.hypot(y).hypot(z)
 }

@@ -1,4 +1,4 @@
-//! `plot`: one question as an SVG. What is drawn comes from the proved library, place by place.
+//! `plot`: draws one question as an SVG. The proved library computes the time at each place of the curve.
 
 mod axes;
 mod choice;
@@ -18,7 +18,7 @@ use choice::Choice;
 use curve::Curve;
 use std::slice::from_ref;
 
-/// Runs the command. The output is opened once there is something to write.
+/// Runs the command. It opens the output only when the picture is ready, so that a failure leaves no empty file.
 pub fn run(words: &[String]) -> Result<u8, Stop> {
     let options = Options::read(words, &[], &["--job", "--slot", "-o"])?;
     let choice = Choice::read(&options)?;

@@ -1,13 +1,13 @@
-//! The rows of a table of outcomes: a job and a revision, then lines about them.
+//! The rows of a table of outcomes: a job and a revision, and beside them the lines of the outcome.
 
 use crate::refusal;
 use crate::words::wrapped;
 
-/// The longest line of words, and what stands before the lines that go on.
+/// The width at which words are broken into lines, and the indent of the lines after the first.
 const WIDTH: usize = 118;
 pub const INDENT: &str = "          ";
 
-/// The lines of a row, the first of them behind the job and the revision.
+/// Returns the text of a row. Its first line begins with the job and the revision.
 pub fn row(job: u32, revision: u32, lines: &[String]) -> String {
     let mut text = String::new();
     let mut before = format!("{job:>10} {revision:>5}");
@@ -18,12 +18,12 @@ pub fn row(job: u32, revision: u32, lines: &[String]) -> String {
     text
 }
 
-/// A refusal's number and what it means.
+/// Returns the lines with the number of a refusal and its meaning.
 pub fn refused(number: u16) -> Vec<String> {
     wrapped(&format!("refused {number}: {}", refusal::words(number)), WIDTH, INDENT)
 }
 
-/// A part of something of a size: six decimals, or with an exponent where those would say too little.
+/// Returns the text of a component of a vector of this size: six decimals, or an exponent if six decimals do not suit the size.
 pub fn speed(part: f64, size: f64) -> String {
     if size == 0.0 || (0.01..1e6).contains(&size) {
         format!("{part:.6}")

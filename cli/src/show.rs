@@ -1,4 +1,4 @@
-//! `show`: records for a person to read, or as JSON or CSV.
+//! `show`: prints records as a table for people, or as JSON or CSV.
 
 mod circular;
 mod comma;
@@ -13,7 +13,7 @@ use crate::wire::{Record, Records};
 use pairs::{Asked, Pairs};
 use std::io::BufReader;
 
-/// A form of output: what stands before the first record, and the text of each.
+/// A form of output: the text before the first record, and the text of each record.
 struct Form {
     head: fn(bool) -> String,
     record: fn(&Record, &Asked) -> String,
@@ -58,7 +58,7 @@ fn show(input: Input, pairs: &mut Pairs, form: &Form) -> Result<(), Stop> {
             },
         }
     };
-    // What was read before a fault is shown before it is told.
+    // Writes the records before the fault to standard output before the message for the fault is printed.
     output.flush()?;
     told
 }

@@ -1,4 +1,4 @@
-//! `solve`: questions to records on every core, in the questions' order.
+//! `solve`: writes the records of questions, on every core and in the questions' order.
 
 mod pool;
 mod progress;
@@ -10,7 +10,7 @@ use crate::wire::SLOT;
 use progress::Progress;
 use std::slice::from_ref;
 
-/// Runs the command; 1 where a question was refused and `--strict` asks.
+/// Runs the command. Returns status 1 if `--strict` is given and a question was refused.
 pub fn run(words: &[String]) -> Result<u8, Stop> {
     let options = Options::read(words, &["--strict"], &["--jobs", "-o"])?;
     let jobs = jobs(options.value("--jobs"))?;
@@ -25,7 +25,7 @@ pub fn run(words: &[String]) -> Result<u8, Stop> {
         let reply = match reply {
             Ok(reply) => reply,
             Err(e) => {
-                // The records before a failed read are whole, and are written.
+                // The records before a failed read are complete, so they are written.
                 output.flush()?;
                 return Err(Stop::reading(&name, &e));
             }

@@ -1,11 +1,11 @@
-//! Why a command stops before its end.
+//! The reasons why a command stops early, and messages to standard error.
 
 use std::io::{self, Write};
 
 pub enum Stop {
-    /// What is wrong, in words: bad usage, bad input or a failed write.
+    /// Bad usage, bad input, or a read or write that failed, with the message.
     Said(String),
-    /// Nobody reads the output any more, which is no error.
+    /// The reader of the output has closed it. This is not an error.
     PipeClosed,
 }
 
@@ -14,7 +14,7 @@ impl Stop {
         Err(Stop::Said(words.into()))
     }
 
-    /// A write that failed.
+    /// Returns the reason for a write that failed.
     pub fn writing(name: &str, error: &io::Error) -> Stop {
         match error.kind() {
             io::ErrorKind::BrokenPipe => Stop::PipeClosed,
@@ -22,13 +22,13 @@ impl Stop {
         }
     }
 
-    /// A read that failed.
+    /// Returns the reason for a read that failed.
     pub fn reading(name: &str, error: &io::Error) -> Stop {
         Stop::Said(format!("cannot read {name}: {error}"))
     }
 }
 
-/// Says something on standard error. Where nobody can hear it, the work goes on.
+/// Prints a message to standard error. If that fails, the command goes on.
 pub fn tell(words: &str) {
     let _ = writeln!(io::stderr(), "lambert-cli: {words}");
 }

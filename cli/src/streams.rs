@@ -1,4 +1,4 @@
-//! Named inputs and outputs. `-`, or no name, is a standard stream.
+//! Inputs and outputs by name. `-` or no name means standard input or standard output.
 
 use crate::stop::Stop;
 use std::fs::{File, Metadata};
@@ -8,7 +8,7 @@ use std::os::unix::fs::MetadataExt;
 pub struct Input {
     pub name: String,
     pub bytes: Box<dyn Read + Send>,
-    /// What the system says of a named file.
+    /// The metadata of a named file. Standard input has none here.
     pub file: Option<Metadata>,
 }
 
@@ -34,14 +34,15 @@ impl Input {
     }
 }
 
-/// An output whose failures are told with its name.
+/// An output. The message for a failed write gives its name.
 pub struct Output {
     name: String,
     bytes: BufWriter<Box<dyn Write>>,
 }
 
 impl Output {
-    /// Opens the output once the inputs are open. An input itself is never overwritten.
+    /// Opens the output. The caller has opened the inputs before. Fails if the output is one of the inputs, so that no input is
+    /// overwritten.
     pub fn open(name: Option<&str>, inputs: &[Input]) -> Result<Output, Stop> {
         let (name, bytes): (&str, Box<dyn Write>) = match name {
             None | Some("-") => ("standard output", Box::new(io::stdout())),

@@ -1,4 +1,4 @@
-//! The records as they stand in a file: questions written and read, answers and refusals read. Little-endian.
+//! The little-endian records of a file. Questions are written and read; answers and refusals are only read.
 
 pub mod form;
 pub mod frames;
@@ -11,7 +11,7 @@ pub use frames::Frames;
 pub use question::{Question, Slots, SLOT};
 pub use record::{Entry, Outcome, Record, Records};
 
-/// A number at a place of some bytes that are known to be long enough.
+/// Defines a function that reads the number at a position of some bytes. It panics if there are too few bytes.
 macro_rules! number_at {
     ($name:ident, $type:ty) => {
         fn $name(bytes: &[u8], at: usize) -> $type {
@@ -28,25 +28,25 @@ number_at!(u32_at, u32);
 number_at!(i64_at, i64);
 number_at!(f64_at, f64);
 
-/// Where a file is not well-formed.
+/// A fault of a file that is not well-formed.
 #[derive(Debug, PartialEq)]
 pub struct Fault {
-    /// The byte at which the wrong field begins.
+    /// The byte at which the wrong field begins or, if the file is cut short, its end.
     pub offset: u64,
-    /// The record or slot, counted from 1.
+    /// The number of the record or slot, counted from 1.
     pub number: u64,
     pub words: String,
 }
 
 impl Fault {
-    /// The fault with its place in a file, as it is told.
+    /// Returns the message for the fault, with the file and the position.
     pub fn located(&self, name: &str, what: &str) -> String {
         let Fault { offset, number, words } = self;
         format!("{name}: byte {offset}, {what} {number}: {words}")
     }
 }
 
-/// Reads until the buffer is full or the input ends, and says how many bytes there were.
+/// Reads until the buffer is full or the input ends. Returns the number of bytes read.
 pub fn read_full(input: &mut impl std::io::Read, buffer: &mut [u8]) -> std::io::Result<usize> {
     let mut had = 0;
     while had < buffer.len() {

@@ -1,8 +1,8 @@
-//! Words and numbers for a person to read, as every command writes them.
+//! Text and numbers for people to read, shared by the commands.
 
 use crate::wire::Question;
 
-/// What was asked, in six phrases.
+/// Returns the question in six phrases.
 pub fn asked(question: &Question) -> [String; 6] {
     let place = |name: &str, r: [f64; 3]| format!("{name} ({}) km", r.map(number).join(", "));
     let revolutions = question.revolutions;
@@ -17,7 +17,7 @@ pub fn asked(question: &Question) -> [String; 6] {
     ]
 }
 
-/// A number as short as it can be read back, with an exponent where it is very large or very small.
+/// Returns a number with the fewest digits that read back as the same number, and an exponent if it is very large or very small.
 pub fn number(value: f64) -> String {
     if value == 0.0 || (1e-5..1e15).contains(&value.abs()) {
         format!("{value}")
@@ -26,7 +26,8 @@ pub fn number(value: f64) -> String {
     }
 }
 
-/// Words in lines of at most a width, broken at spaces; the lines after the first begin with the indent.
+/// Breaks words at spaces into lines. Each line after the first begins with the indent. Only a line with a single word can be longer
+/// than `width`.
 pub fn wrapped(words: &str, width: usize, indent: &str) -> Vec<String> {
     let mut lines = vec![String::new()];
     for word in words.split(' ') {

@@ -4,9 +4,9 @@ use super::{ours, record, theirs};
 use reference::board::{BAD_BOARD, SIZE};
 use reference::random::Random;
 
-/// So many posts to a board, which is then emptied.
+/// The number of posts to a board before it is emptied.
 const LIST: u64 = 1_000;
-/// More jobs than a board holds, 0 among them.
+/// The number of different jobs. It is more than a board holds, and job 0 is one of them.
 const JOBS: u64 = 72;
 
 pub fn compare(count: u64) -> bool {
@@ -39,7 +39,7 @@ pub fn compare(count: u64) -> bool {
     true
 }
 
-/// A fresh record mostly; else one that was posted already, as it is, with a byte changed, or cut.
+/// Returns a new record in most cases. Otherwise returns an earlier record: unchanged, cut short, or with one bit flipped.
 fn next(records: &[Vec<u8>], random: &mut Random) -> Vec<u8> {
     let sort = random.below(8);
     if sort > 2 || records.is_empty() {
@@ -56,7 +56,7 @@ fn next(records: &[Vec<u8>], random: &mut Random) -> Vec<u8> {
     record
 }
 
-/// Flips bits of a byte in both boards; a second time they are as before.
+/// Flips bits of one byte in both boards. A second call with the same arguments restores the boards.
 fn flip(boards: &mut [Vec<u8>; 2], (at, bits): (usize, u8)) {
     boards.iter_mut().for_each(|board| board[at] ^= bits);
 }

@@ -1,4 +1,4 @@
-//! How many posts a second, on boards that are full of the longest records, of the shortest, and empty.
+//! Measures how many posts a second take place on boards full of the longest records, full of the shortest records, and empty.
 
 use super::{ours, record, theirs, TAKEN};
 use crate::timing;
@@ -7,7 +7,7 @@ use reference::message::MOST_ENTRIES;
 use reference::random::Random;
 use std::cell::RefCell;
 
-/// A sort of posts: the board that each of them begins with, the records, and what is told of each.
+/// A group of posts: the board before each post, the records, and the result that each post must have.
 struct Sort {
     what: &'static str,
     board: Vec<u8>,
@@ -15,7 +15,7 @@ struct Sort {
     told: u8,
 }
 
-/// The board is restored before each post. That is timed by itself too, and taken off.
+/// Prints the speed of each group. The board is restored before each post; that time is also measured alone and subtracted.
 pub fn time() {
     for Sort { what, board, records, told } in sorts() {
         let lent = RefCell::new(board.clone());
@@ -44,7 +44,7 @@ fn report(what: &str, count: usize, [ours, theirs]: [f64; 2], restoring: f64) {
     );
 }
 
-/// Full boards have the even jobs from 2 on, so that others have their places between them.
+/// Returns the groups. A full board holds the even jobs from 2 on, so that the odd jobs belong between them.
 fn sorts() -> [Sort; 6] {
     let mut random = Random::new(15);
     let mut records = |first: u32, revision: u32, entries: usize| -> Vec<Vec<u8>> {

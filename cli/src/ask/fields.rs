@@ -1,7 +1,7 @@
-//! The fields of a question from text. Only what a field cannot hold is refused; the rest is the solver's to judge.
+//! Reads the fields of a question from text. These functions refuse only what a field cannot hold. The solver checks the rest.
 
-/// The bodies that a gravitational parameter is known of, in km³/s², and where the value is from. It is the
-/// body's own, without its moons.
+/// The bodies that `--mu` knows by name: the gravitational parameter in km³/s², and the source of the value. The value is that of
+/// the body alone, without its moons.
 pub const BODIES: [(&str, f64, &str); 4] = [
     ("earth", 398_600.441_8, "WGS 84, as in GeographicLib 2.1.2"),
     ("moon", 4_902.800_066_163_796, HORIZONS),
@@ -13,7 +13,7 @@ const HORIZONS: &str = "JPL's gm_Horizons.pck, as in Skyfield 1.45";
 
 const UNITS: [(&str, f64); 4] = [("s", 1.0), ("min", 60.0), ("h", 3_600.0), ("d", 86_400.0)];
 
-/// A decimal number within the range of an f64.
+/// Reads a decimal number within the range of an f64.
 pub fn real(text: &str) -> Result<f64, String> {
     let text = text.trim();
     if text.is_empty() {
@@ -31,12 +31,12 @@ pub fn real(text: &str) -> Result<f64, String> {
     }
 }
 
-/// Whether the digits before an exponent are not all 0.
+/// Reports whether a digit before the exponent is not 0.
 fn has_digit(text: &str) -> bool {
     text.split(['e', 'E']).next().is_some_and(|digits| digits.contains(|c| ('1'..='9').contains(&c)))
 }
 
-/// A whole number from 0 to `max`.
+/// Reads a whole number from 0 to `max`.
 pub fn whole(text: &str, max: u32) -> Result<u32, String> {
     let text = text.trim();
     let digits = text.strip_prefix('-').unwrap_or(text);
@@ -66,7 +66,7 @@ pub fn revolutions(text: &str) -> Result<u16, String> {
     whole(text, u16::MAX.into()).map(|value| value as u16)
 }
 
-/// True the long way.
+/// Reads the way: true for long, false for short.
 pub fn way(text: &str) -> Result<bool, String> {
     match text.trim() {
         "short" => Ok(false),
@@ -76,7 +76,7 @@ pub fn way(text: &str) -> Result<bool, String> {
     }
 }
 
-/// A number, or the name of a body.
+/// Reads a gravitational parameter: a number, or the name of a body.
 pub fn mu(text: &str) -> Result<f64, String> {
     match BODIES.iter().find(|(name, ..)| *name == text.trim()) {
         Some((_, value, _)) => Ok(*value),
@@ -87,7 +87,7 @@ pub fn mu(text: &str) -> Result<f64, String> {
     }
 }
 
-/// A time in seconds: the number, as an f64, times its unit.
+/// Reads a time and returns it in seconds: the number as an f64, times its unit.
 pub fn time(text: &str) -> Result<f64, String> {
     let text = text.trim();
     let number = text.trim_end_matches(|c: char| c.is_alphabetic()).trim_end();
@@ -102,7 +102,7 @@ pub fn time(text: &str) -> Result<f64, String> {
     }
 }
 
-/// Three numbers with commas between.
+/// Reads three numbers separated by commas.
 pub fn vector(text: &str) -> Result<[f64; 3], String> {
     let parts: Vec<&str> = text.split(',').collect();
     match parts[..] {

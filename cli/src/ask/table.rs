@@ -1,4 +1,4 @@
-//! Questions from a CSV file with a header. Each mistake is told with its line, its column and the reason.
+//! Reads questions from a CSV file with a header. The message for a mistake gives its line and, if there is one, its column.
 
 use super::{fields, say_mu, Mistakes, DEFAULT_REVISION, DEFAULT_REVOLUTIONS};
 use crate::csv::{self, Row};
@@ -6,7 +6,7 @@ use crate::stop::Stop;
 use crate::streams::Input;
 use crate::wire::Question;
 
-/// The columns; the last two may be left out.
+/// The columns of a question. The last two are optional.
 const COLUMNS: [&str; 12] =
     ["job", "r1_x", "r1_y", "r1_z", "r2_x", "r2_y", "r2_z", "mu", "time", "way", "revision", "revolutions"];
 const NEEDED: usize = 10;
@@ -27,7 +27,7 @@ pub fn questions(input: &mut Input) -> Result<Vec<Question>, Stop> {
     Ok(questions)
 }
 
-/// The column of each field of the header.
+/// Returns the columns in the order of the header, and records its mistakes.
 fn columns(header: &Row, mistakes: &mut Mistakes) -> Vec<&'static str> {
     let mut columns = Vec::new();
     for name in header.fields.iter().map(|name| name.trim()) {
@@ -78,7 +78,7 @@ fn cell<'a>(row: &'a Row, columns: &[&str], name: &str) -> Option<&'a str> {
     columns.iter().position(|column| *column == name).map(|at| row.fields[at].as_str())
 }
 
-/// Says the value of each body that is named, once.
+/// Prints the value of each body that the file names, once per body.
 fn say_bodies(rows: &[Row], columns: &[&str]) {
     for (name, value, _) in fields::BODIES {
         if rows.iter().any(|row| cell(row, columns, "mu").is_some_and(|text| text.trim() == name)) {

@@ -1,4 +1,4 @@
-//! Posting the records of an input, with a word on each that is refused.
+//! Posts the records of an input, and prints a message for each record that the board refuses.
 
 use crate::proved::{post, TAKEN};
 use crate::stop::{tell, Stop};
@@ -7,16 +7,17 @@ use crate::wire::slots::SLOTS;
 use crate::wire::{form, Frames};
 use std::io::BufReader;
 
-/// The refusals of a board, by the number after their B.
+/// The numbers of a board's refusals, B0 to B3.
 pub const NO_BOARD: u8 = 0;
 const MALFORMED: u8 = 1;
 const NO_JOB: u8 = 2;
 const NO_SLOT: u8 = 3;
 
-/// So many refusals are told of each input, and the rest by their number: a file of something else has many.
+/// The most refusals that are printed for one input. The rest are only counted: a file that does not hold records can have many.
 const TOLD: u64 = 20;
 
-/// How many records were posted and refused, and whether an input could not be cut into records to its end.
+/// How many records were posted, how many of them the board refused, and whether some input could not be split into records up to
+/// its end.
 #[derive(Default)]
 pub struct Tally {
     pub records: u64,
@@ -55,7 +56,7 @@ pub fn post_all(input: &mut Input, board: &mut [u8], tally: &mut Tally) -> Resul
     Ok(())
 }
 
-/// Where in a record the reason of its refusal stands, and what it is.
+/// Returns the position in a refused record of the field that is the reason, and the reason in words.
 fn why(number: u8, record: &[u8]) -> (usize, String) {
     match number {
         MALFORMED => match form::framed(record) {
@@ -77,7 +78,7 @@ mod tests {
         vec![12, 0, 0, 0, 3, 0, job, 0, 0, 0, 1, 0, 0, 0, number, 0]
     }
 
-    /// What the library refuses has a reason that is found here too.
+    /// `why` finds a reason for each record that the library refuses.
     #[test]
     fn each_refusal_has_its_place_and_its_reason() {
         let mut board = vec![0; BOARD];

@@ -1,4 +1,4 @@
-//! A board as a table: a row for each job, and at the end how full it is.
+//! A board as a table: a row for each job, and a last line that says how full the board is.
 
 use crate::orbit::{kind, size, x_of};
 use crate::rows::{refused, row, speed};
@@ -33,7 +33,7 @@ fn lines(held: &Held) -> Vec<String> {
     }
 }
 
-/// A transfer, with the sizes of its velocities.
+/// The line of a transfer, with the sizes of its velocities.
 fn line(entry: &Entry, which: &str) -> String {
     let [v1, v2] = [entry.v1, entry.v2].map(|v| speed(size(v), size(v)));
     format!("{which:<8}  {:<9}  {:>15.12}{v1:>13}{v2:>13}", kind(entry), x_of(entry.chosen()))

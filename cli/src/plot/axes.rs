@@ -1,17 +1,18 @@
-//! Where a place and a time stand in the picture. x is linear; times range over many decades, and are logarithmic.
+//! The positions of places and times in the picture. The x axis is linear. The time axis is logarithmic, since times range over many
+//! decades.
 
 use super::curve::Curve;
 
-/// The frame of the graph, in units of the picture.
+/// The left and right edge of the graph's frame and its height, in units of the picture.
 pub const LEFT: f64 = 50.0;
 pub const RIGHT: f64 = 374.0;
 pub const HEIGHT: f64 = 270.0;
 
 pub struct Axes {
     pub top: f64,
-    /// x at the right end of the frame; at the left it is -1.
+    /// x at the right edge of the frame. At the left edge x is -1.
     pub right: f64,
-    /// The common logarithms of the times at the lower and upper end of the frame.
+    /// The common logarithms of the times at the lower and the upper edge of the frame.
     pub levels: (f64, f64),
 }
 
@@ -39,13 +40,15 @@ impl Axes {
     }
 }
 
-/// The logarithm of a time. One that is not positive stands far below the frame.
+/// Returns the common logarithm of a time. A time that is not positive is treated as the smallest positive normal number, so it is
+/// far below the frame.
 fn level(time: f64) -> f64 {
     time.max(f64::MIN_POSITIVE).log10()
 }
 
-/// What the frame shows: the wanted time, the least time and half of the stations, and some room, more of it above,
-/// where the curve goes on, but no further than there is something to see.
+/// Returns the range of times that the frame shows, as logarithms: the wanted time, the least time and at least half of the stations
+/// with a positive time, with a margin. The margin is larger at the top, where the curve goes on, but the frame ends at most 0.4
+/// decades above the wanted time or the greatest time of a station, whichever is greater.
 fn levels(curve: &Curve) -> (f64, f64) {
     let wanted = level(curve.wanted);
     let mut times: Vec<f64> = curve.stations.iter().filter_map(|(_, time)| *time).collect();

@@ -1,4 +1,4 @@
-//! Which question of a file is drawn.
+//! Finds the question of a file that is drawn.
 
 use crate::options::Options;
 use crate::stop::Stop;
@@ -8,10 +8,10 @@ use std::io::{BufReader, Read};
 
 #[derive(Debug, PartialEq)]
 pub enum Choice {
-    /// The file has no other.
+    /// The only question of the file.
     Only,
     Job(u32),
-    /// Counted from 1.
+    /// The question in a slot, counted from 1.
     Slot(u64),
 }
 
@@ -31,19 +31,19 @@ impl Choice {
         }
     }
 
-    /// The chosen question of an input. A slot that is none is told as `check` tells it.
+    /// Returns the chosen question of an input. If the slot is not a question, the message is the one that `check` prints.
     pub fn question(&self, input: &mut Input) -> Result<Question, Stop> {
         let slots = &mut Slots::new(BufReader::new(&mut input.bytes));
         let name = &input.name;
         let Some(slot) = self.slot(slots, name)? else {
             return Stop::said(format!("{name}: {}", self.missing(slots.number)));
         };
-        // Where it is no question it was read last: a job is found in questions alone.
+        // A slot that is not a question was read last, since a job is found only in a question. So `slots` has its position.
         let fault = |(at, words)| Fault { offset: slots.offset() + at as u64, number: slots.number, words };
         Question::read(&slot).map_err(|wrong| Stop::Said(fault(wrong).located(name, "slot")))
     }
 
-    /// The chosen slot. Where another could be meant too, neither is taken.
+    /// Returns the chosen slot, or `None` if there is none. Fails if more than one slot fits the choice.
     fn slot(&self, slots: &mut Slots<impl Read>, name: &str) -> Result<Option<Vec<u8>>, Stop> {
         let mut found: Option<(u64, Vec<u8>)> = None;
         while let Some(slot) = slots.next().map_err(|e| Stop::reading(name, &e))? {

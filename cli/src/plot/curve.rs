@@ -1,10 +1,10 @@
-//! What the proved library says of a question: the wanted time, and the times at its stations and chosen ends.
+//! What the proved library computes for a question: the wanted time, and the times at its stations and chosen ends.
 
 use crate::orbit::x_of;
 use crate::proved;
 use crate::wire::Outcome;
 
-/// A place: x, and the time where the place has one.
+/// A place: x, and the time if the place has one.
 pub type Place = (f64, Option<f64>);
 
 pub struct Curve {
@@ -15,7 +15,7 @@ pub struct Curve {
 }
 
 impl Curve {
-    /// The curve of a question's bytes; none where it does not pass the entrance checks.
+    /// Returns the curve of a question, or `None` if the question does not pass the entrance checks.
     pub fn of(question: &[u8], outcome: &Outcome) -> Option<Curve> {
         let place = |k: i64| (x_of(k), known(proved::time(question, k)));
         let chosen = match outcome {
@@ -26,13 +26,13 @@ impl Curve {
         Some(Curve { wanted: known(proved::wanted(question))?, stations, chosen })
     }
 
-    /// How many stations are void.
+    /// Returns the number of void stations.
     pub fn void(&self) -> usize {
         self.stations.iter().filter(|(_, time)| time.is_none()).count()
     }
 }
 
-/// All ones, a pattern that no time has, stand for none.
+/// Returns the time with these bits, or `None` if they are all ones. No time has all ones as its bits.
 fn known(bits: u64) -> Option<f64> {
     Some(bits).filter(|bits| *bits != u64::MAX).map(f64::from_bits)
 }

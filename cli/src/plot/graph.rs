@@ -6,7 +6,7 @@ use super::svg::{circle, escaped, line, rect, text, within, DARK, GREY};
 use super::ticks::{linear, logarithmic};
 use super::trace::{trace, Trace};
 
-/// How the curve, the wanted time and void stations are drawn, here and in the legend.
+/// The styles of the curve, the wanted time and void stations, in the graph and in the legend.
 pub const CURVE: &str =
     "stroke=\"#17407a\" stroke-width=\"2\" stroke-linecap=\"round\" stroke-linejoin=\"round\"";
 pub const WANTED: &str = "stroke=\"#b00020\" stroke-width=\"1.8\" stroke-dasharray=\"7 4\"";
@@ -14,16 +14,16 @@ pub const VOID: &str = "fill=\"#efb04a\"";
 
 const GRID: &str = "stroke=\"#d5d5d5\"";
 const PARABOLA: &str = "stroke=\"#555555\" stroke-dasharray=\"2 3\"";
-/// Words that stay legible over lines.
+/// A white outline that keeps text legible over lines.
 const HALO: &str = "stroke=\"white\" stroke-width=\"4\" stroke-linejoin=\"round\" paint-order=\"stroke\"";
 
-/// Draws the graph; `brackets` has the words of each entry.
+/// Draws the graph. `brackets` has the words for each entry.
 pub fn graph(curve: &Curve, axes: &Axes, brackets: &[String]) -> String {
     let frame = [LEFT, axes.top, RIGHT - LEFT, HEIGHT];
     let Trace { path, voids } = trace(&curve.stations, axes);
     let mut drawn = levels(axes) + &places(axes);
     for (from, to) in voids {
-        // A little wider than it is, so that one station alone is seen.
+        // The mark is one unit wider than the stretch, so that a single void station can be seen.
         drawn += &rect([from - 0.5, axes.top, to - from + 1.0, HEIGHT], &format!("class=\"void\" {VOID}"));
     }
     let y = axes.down(curve.wanted);
@@ -37,7 +37,7 @@ pub fn graph(curve: &Curve, axes: &Axes, brackets: &[String]) -> String {
     drawn
 }
 
-/// The axis of times, with its lines.
+/// Draws the time axis with its grid lines.
 fn levels(axes: &Axes) -> String {
     let mut drawn = text(12.0, axes.top - 9.0, "", "T, the normalised time (logarithmic)");
     for (level, label) in logarithmic(axes.levels) {
@@ -51,7 +51,7 @@ fn levels(axes: &Axes) -> String {
     drawn
 }
 
-/// The axis of x, with its lines; the parabola stands between ellipses and hyperbolas.
+/// Draws the x axis with its grid lines. If the axis goes beyond x = 1, the line of the parabola separates ellipses from hyperbolas.
 fn places(axes: &Axes) -> String {
     let (bottom, past) = (axes.bottom(), axes.right > 1.0);
     let kinds = if past { " (below 1 ellipses, above 1 hyperbolas)" } else { "" };
@@ -66,8 +66,8 @@ fn places(axes: &Axes) -> String {
     drawn
 }
 
-/// A bracket: its chosen end on the curve, a line down to its x, and its number beside it, below
-/// the wanted time and away from the curve. No bracket is wide enough to be seen; its ends are among its words.
+/// Draws a bracket: a circle at its chosen end on the curve, a line down to its x, and its number beside the circle, below the wanted
+/// time and away from the curve. A bracket is too narrow to be seen; its words give its ends.
 fn bracket(i: usize, (x, time): Place, wanted: f64, axes: &Axes, words: &str) -> String {
     let (across, down) = (axes.across(x), axes.down(time.unwrap_or(wanted)));
     let left = i.is_multiple_of(2) && across > LEFT + 20.0;

@@ -1,4 +1,4 @@
-//! The whole picture: what was asked, the graph, what its lines are, and the brackets or the refusal in words.
+//! The whole picture: the question, the graph, its legend, and the brackets or the refusal in words.
 
 use super::axes::Axes;
 use super::curve::Curve;
@@ -9,13 +9,13 @@ use crate::refusal;
 use crate::wire::{Entry, Outcome, Question};
 use crate::words::{asked, number, wrapped};
 
-/// The width in units. A phone shows about as many pixels, so that the words have their own size there.
+/// The width of the picture in its own units. A phone is about as many pixels wide, so the text appears there at its nominal size.
 const WIDTH: f64 = 400.0;
 const MARGIN: f64 = 12.0;
-/// The height of a line of words, and how many characters it has.
+/// The height of a line of text, and the most characters in it.
 const LINE: f64 = 18.0;
 const LONGEST: usize = 54;
-/// A space that no line is broken at; a plain one once the lines are there.
+/// A space at which no line is broken. It becomes a plain space in the finished file.
 const NO_BREAK: &str = "\u{a0}";
 
 pub fn page(question: &Question, outcome: &Outcome, curve: Option<&Curve>) -> String {
@@ -41,7 +41,7 @@ pub fn page(question: &Question, outcome: &Outcome, curve: Option<&Curve>) -> St
 
 struct Page {
     drawn: String,
-    /// Down to where something stands.
+    /// The y down to which the page is filled.
     y: f64,
 }
 
@@ -72,7 +72,7 @@ impl Page {
         self.drawn += &(sign(self.y - 4.5) + &text(MARGIN + 34.0, self.y, "", words));
     }
 
-    /// The picture as a file: it takes the width that there is, up to a limit, and needs nothing from elsewhere.
+    /// Returns the picture as a file. It fills the available width up to a limit, and loads no other file.
     fn svg(self, name: &str, title: &str, description: &str) -> String {
         let height = (self.y + 12.0).ceil();
         format!(
@@ -89,7 +89,7 @@ impl Page {
     }
 }
 
-/// What came of the question: a bracket in each line, or the refusal.
+/// Returns the outcome in words: an item for each bracket, or the refusal.
 fn told(outcome: &Outcome) -> Vec<String> {
     match outcome {
         Outcome::Refused(number) => vec![format!("refused {number}: {}", refusal::words(*number))],
@@ -109,13 +109,13 @@ fn bracket(i: usize, entry: &Entry) -> String {
     ])
 }
 
-/// Phrases with commas between, which a line is broken at and nowhere else.
+/// Joins phrases with commas. A line can be broken only after a comma.
 fn whole(phrases: &[String]) -> String {
     let whole: Vec<String> = phrases.iter().map(|phrase| phrase.replace(' ', NO_BREAK)).collect();
     whole.join(", ")
 }
 
-/// The picture in words.
+/// Returns the picture in words.
 fn description(question: &Question, outcome: &Outcome, curve: Option<&Curve>) -> String {
     let mut said = format!("Asked: {}. ", asked(question).join(", "));
     if let Some(curve) = curve {

@@ -1,14 +1,14 @@
-//! Pieces of SVG. Attributes are ours; words are escaped.
+//! Elements of SVG. Attributes are written as they are, since this program chooses them; words are escaped.
 
 pub const DARK: &str = "#1a1a1a";
 pub const GREY: &str = "#555555";
 
-/// Characters that markup means something by.
+/// Escapes the characters that have a meaning in SVG.
 pub fn escaped(words: &str) -> String {
     words.replace('&', "&amp;").replace('<', "&lt;").replace('>', "&gt;").replace('"', "&quot;")
 }
 
-/// Words that begin at a point; `more` has other attributes.
+/// Returns words at a point. `more` has further attributes.
 pub fn text(x: f64, y: f64, more: &str, words: &str) -> String {
     format!("<text x=\"{x:.1}\" y=\"{y:.1}\"{}>{}</text>\n", spaced(more), escaped(words))
 }
@@ -22,7 +22,7 @@ pub fn rect([x, y, width, height]: [f64; 4], more: &str) -> String {
     format!("<rect x=\"{x:.2}\" y=\"{y:.2}\" {size}{}/>\n", spaced(more))
 }
 
-/// Something of which only what is within a frame is seen.
+/// Returns a drawing that is clipped to a frame.
 pub fn within([x, y, width, height]: [f64; 4], drawn: &str) -> String {
     let size = format!("x=\"{x}\" y=\"{y}\" width=\"{width}\" height=\"{height}\"");
     format!("<svg {size} viewBox=\"{x} {y} {width} {height}\">\n{drawn}</svg>\n")

@@ -1,9 +1,9 @@
 //! The marks of the axes, with their labels.
 
-/// A level with its label, if it has one.
+/// A mark: the common logarithm of its time, and its label if it has one.
 pub type Tick = (f64, Option<String>);
 
-/// The marks of a logarithmic axis: decades where there are many, steps within them where there are few.
+/// Returns the marks of a logarithmic axis: only powers of ten if the axis spans many decades, and marks between them if it spans few.
 pub fn logarithmic((low, high): (f64, f64)) -> Vec<Tick> {
     let decades = high - low;
     let stride = (decades / 8.0).ceil().max(1.0) as i32;
@@ -25,7 +25,7 @@ pub fn logarithmic((low, high): (f64, f64)) -> Vec<Tick> {
     ticks
 }
 
-/// The marks of x from -1 to its right end.
+/// Returns the marks of the x axis, from -1 to its right end.
 pub fn linear(right: f64) -> Vec<(f64, &'static str)> {
     if right > 1.0 {
         vec![(-1.0, "-1"), (0.0, "0"), (1.0, "1"), (2.0, "2"), (3.0, "3"), (4.0, "4")]
@@ -34,7 +34,7 @@ pub fn linear(right: f64) -> Vec<(f64, &'static str)> {
     }
 }
 
-/// A digit times a power of ten, written out where that is short.
+/// Returns the label of a digit times a power of ten, written out if that is short.
 fn label(digit: i32, exponent: i32) -> String {
     if (0..=3).contains(&exponent) {
         return format!("{}", i64::from(digit) * 10i64.pow(exponent as u32));

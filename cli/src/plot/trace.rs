@@ -1,6 +1,6 @@
-//! The curve in few points. Of the stations in one column of the picture the first, the least, the greatest and
-//! the last are kept, so that a curve on both sides of the wanted time stays on both. A column with a void station
-//! is marked.
+//! Draws the curve with few points. Of the stations in one column of the picture, `trace` keeps the first, the lowest, the highest
+//! and the last, so that a curve with points on both sides of the wanted time keeps points on both sides. It marks each column that
+//! has a void station.
 
 use super::axes::Axes;
 use super::curve::Place;
@@ -11,7 +11,7 @@ const COLUMN: f64 = 1.0;
 pub struct Trace {
     /// The data of an SVG path, which breaks at void stations.
     pub path: String,
-    /// From where to where there are void stations.
+    /// The stretches of columns with void stations: where each begins and ends.
     pub voids: Vec<(f64, f64)>,
 }
 
@@ -28,7 +28,7 @@ pub fn trace(stations: &[Place], axes: &Axes) -> Trace {
         let points = kept(&places.iter().filter_map(timed).collect::<Vec<_>>());
         joined &= places[0].1.is_some();
         for (x, y) in points {
-            // A part begins with a line of no length, so that a station alone is a dot.
+            // Each part of the path begins with a line of length zero, so that a single station is drawn as a dot.
             let begin = if joined { String::new() } else { format!("M{x:.2} {y:.2}") };
             trace.path += &format!("{begin} {x:.2} {y:.2}");
             joined = true;
@@ -42,7 +42,7 @@ fn column(x: f64, axes: &Axes) -> f64 {
     (axes.across(x) / COLUMN).floor() * COLUMN
 }
 
-/// Lengthens the last stretch by the column that follows it, or begins another.
+/// Extends the last stretch if the column follows it directly, or begins a new stretch.
 fn mark(stretches: &mut Vec<(f64, f64)>, column: f64) {
     match stretches.last_mut() {
         Some((_, end)) if *end == column => *end += COLUMN,
@@ -50,7 +50,7 @@ fn mark(stretches: &mut Vec<(f64, f64)>, column: f64) {
     }
 }
 
-/// The first, the highest, the lowest and the last of some points, in their order and each once.
+/// Returns the first, the highest, the lowest and the last of some points, in their order and without repeats.
 fn kept(points: &[Point]) -> Vec<Point> {
     let by_height = |a: &usize, b: &usize| points[*a].1.total_cmp(&points[*b].1);
     let all = 0..points.len();

@@ -53,7 +53,7 @@ fn posts_to_boards_of_the_right_size_alone() {
     assert!(board[..16] == record && board[16..].iter().all(|byte| *byte == 0));
 }
 
-/// Run by `cli/test`, which names a file of questions and the file of records that `lambert` gave.
+/// `cli/test` runs this test with the names of a file of questions and of the file of records that `lambert` wrote for them.
 #[test]
 #[ignore = "needs LAMBERT_QUESTIONS and LAMBERT_RECORDS"]
 fn gives_the_records_of_lambert() {

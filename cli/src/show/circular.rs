@@ -1,20 +1,20 @@
-//! What it takes to leave a circular orbit for a transfer, and a transfer for a circular orbit. The circular orbits
-//! go through the question's positions, in the transfer's own plane and sense.
+//! The velocity changes from a circular orbit to a transfer and from the transfer to a circular orbit. The circular orbits pass
+//! through the question's positions, in the plane and the direction of the transfer.
 
 use crate::orbit::size;
 use crate::wire::{Entry, Question};
 
-/// The names of both changes, for other programs; in km/s.
+/// The names of both changes in JSON and CSV. The changes are in km/s.
 pub const NAMES: [&str; 2] = ["dv1_circular", "dv2_circular"];
 
-/// The sizes of both changes: at the departure from r1, and at the arrival at r2.
+/// Returns the sizes of both changes: at the departure from r1 and at the arrival at r2.
 pub fn changes(question: &Question, entry: &Entry) -> [f64; 2] {
     let Question { r1, r2, mu, .. } = *question;
     [change(mu, r1, entry.v1), change(mu, r2, entry.v2)]
 }
 
-/// The size of a velocity less that of the circular orbit: all of the radial speed, and of the transverse speed
-/// what differs from √(mu/r).
+/// Returns the size of the difference between a velocity and that of the circular orbit. Its radial part is the whole radial speed,
+/// and its transverse part is the transverse speed less √(mu/r).
 fn change(mu: f64, position: [f64; 3], v: [f64; 3]) -> f64 {
     let r = size(position);
     let u = position.map(|component| component / r);
@@ -27,8 +27,8 @@ fn change(mu: f64, position: [f64; 3], v: [f64; 3]) -> f64 {
 mod tests {
     use super::*;
 
-    /// Hohmann's transfer from 1 to 3 with mu = 6: a = 2, so that v1² = 6·(2/1 − 1/2) = 9 and
-    /// v2² = 6·(2/3 − 1/2) = 1, while the circular speeds are √6 and √2.
+    /// Hohmann's transfer from 1 to 3 with mu = 6: a = 2, so v1² = 6·(2/1 − 1/2) = 9 and
+    /// v2² = 6·(2/3 − 1/2) = 1. The circular speeds are √6 and √2.
     #[test]
     fn a_transfer_of_hohmann() {
         let (r1, r2) = ([1.0, 0.0, 0.0], [-3.0, 0.0, 0.0]);
@@ -42,7 +42,8 @@ mod tests {
         }
     }
 
-    /// At r = 2 with mu = 8 the circular speed is 2; radial 3 and transverse 6 leave 3 and 4, and so 5.
+    /// At r = 2 with mu = 8 the circular velocity is transverse and has the size 2. A radial speed of 3 and a transverse speed of 6
+    /// differ from it by 3 and 4, so the change is 5.
     #[test]
     fn radial_speed_counts_and_the_sense_does_not() {
         for (position, v) in [

@@ -38,7 +38,7 @@ pub fn record(record: &Record, asked: &Asked) -> String {
     }
 }
 
-/// As many empty fields as a part of the header has.
+/// Returns an empty field for each column of a part of the header.
 fn blanks(columns: &str) -> Vec<String> {
     columns.split(',').map(|_| String::new()).collect()
 }
@@ -55,7 +55,7 @@ fn transfer_fields(entry: &Entry) -> Vec<String> {
     fields
 }
 
-/// The question, and what needs it beside a transfer.
+/// Returns the fields of the question, and for a transfer the velocity changes, which need the question.
 fn asked_fields(asked: &Asked, entry: Option<&Entry>) -> Vec<String> {
     let (question, changes) = match asked {
         Asked::Unknown => return Vec::new(),

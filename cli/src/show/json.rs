@@ -1,4 +1,4 @@
-//! A record as a JSON object on a line. Floats have the digits that read back to the same bits.
+//! A record as a JSON object on one line. Floats are written with enough digits to read back as the same bits.
 
 use super::circular::{changes, NAMES};
 use super::pairs::Asked;
@@ -71,7 +71,7 @@ fn list(values: [f64; 3]) -> String {
     format!("[{}]", values.map(float).join(","))
 }
 
-/// JSON has no infinities and no NaN: a question's are strings.
+/// Returns a number as JSON. JSON has no infinities and no NaN, so those of a question are written as strings.
 fn float(value: f64) -> String {
     if value.is_finite() {
         format!("{value:?}")
@@ -80,7 +80,7 @@ fn float(value: f64) -> String {
     }
 }
 
-/// A string of our own words, which have nothing to escape but quotes and backslashes.
+/// Returns a JSON string. The words are this program's own, so that quotes and backslashes are all there is to escape.
 fn string(words: &str) -> String {
     format!("\"{}\"", words.replace('\\', "\\\\").replace('"', "\\\""))
 }

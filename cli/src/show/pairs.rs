@@ -1,4 +1,4 @@
-//! Which question a record answers: the one at its place, and its job and revision say so too.
+//! Finds the question of each record: the one at the same position. Its job and revision must be those of the record.
 
 use crate::stop::Stop;
 use crate::streams::Input;
@@ -6,16 +6,16 @@ use crate::wire::{Outcome, Question, Record, Slots};
 use std::io::{BufReader, Read};
 
 pub enum Asked {
-    /// The questions are not at hand.
+    /// No questions were given.
     Unknown,
-    /// The slot is no question, as number 1 says.
+    /// The slot is not a question, and its record is refused with number 1.
     NoQuestion,
     Known(Question),
 }
 
 type Source = Slots<BufReader<Box<dyn Read + Send>>>;
 
-/// The questions beside the records, if they are at hand.
+/// The questions of the records, if they were given.
 pub struct Pairs {
     questions: Option<(String, Source)>,
 }
@@ -31,7 +31,8 @@ impl Pairs {
         self.questions.is_some()
     }
 
-    /// The question of the record at a place. After the last record there must be no question left.
+    /// Returns the question of the next record, whose position is `number`. After the last record the caller passes `None`; then the
+    /// call fails if a question is left.
     pub fn next(&mut self, record: Option<&Record>, number: u64) -> Result<Asked, Stop> {
         let Some((name, slots)) = &mut self.questions else { return Ok(Asked::Unknown) };
         let slot = slots.next().map_err(|e| Stop::reading(name, &e))?;

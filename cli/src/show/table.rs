@@ -1,5 +1,5 @@
-//! Records as a table. A record's first line has its job and revision; a transfer takes two lines, v1 and v2, and a
-//! third where its question is at hand.
+//! Records as a table. The first line of a record has its job and revision. A transfer has two lines, for v1 and v2, and a third
+//! line if the questions were given.
 
 use super::circular::changes;
 use super::pairs::Asked;
@@ -48,7 +48,7 @@ fn entry_lines(entry: &Entry, which: &str) -> [String; 2] {
     [format!("{first}  v1{}", velocity(entry.v1)), format!("{rest}  v2{}", velocity(entry.v2))]
 }
 
-/// The components and the size.
+/// Returns the components of a velocity and its size.
 fn velocity(v: [f64; 3]) -> String {
     let size = size(v);
     [v[0], v[1], v[2], size].map(|part| format!("{:>13}", speed(part, size))).concat()

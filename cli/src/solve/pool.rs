@@ -1,5 +1,5 @@
-//! Threads that answer blocks of slots, and the replies in the order of the blocks.
-//! The queues are short, so that no more than a few blocks are held at a time.
+//! Threads that answer blocks of slots, and their replies in the order of the blocks.
+//! The queues are short, so that only a few blocks are in memory at a time.
 
 use crate::proved::record_of;
 use crate::stop::Stop;
@@ -9,7 +9,7 @@ use std::sync::mpsc::{sync_channel, Receiver, SyncSender, TryRecvError};
 use std::sync::{Arc, Mutex};
 use std::thread;
 
-/// The slots of a block: few, so that the threads end together; a slot takes milliseconds.
+/// The most slots in a block. A slot takes milliseconds; small blocks let the threads finish at nearly the same time.
 const BLOCK: usize = 8;
 
 pub struct Reply {
@@ -23,14 +23,15 @@ struct Work {
     reply: SyncSender<Reply>,
 }
 
-/// A reply to wait for, or the failure of a read at its place in the order.
+/// A reply to wait for, or, in its place in the order, a read that failed.
 type Awaited = Result<Receiver<Reply>, io::Error>;
 
 pub struct Replies {
     order: Receiver<Awaited>,
 }
 
-/// Starts a thread that reads and `jobs` threads that answer. They end with the input, or with the process.
+/// Starts a thread that reads and `jobs` threads that answer. They end when the input ends, when the replies are no longer taken, or
+/// with the process.
 pub fn start(input: Box<dyn Read + Send>, jobs: usize) -> Replies {
     let (to_workers, work) = sync_channel(jobs);
     let (to_order, order) = sync_channel(4 * jobs);
@@ -41,7 +42,7 @@ pub fn start(input: Box<dyn Read + Send>, jobs: usize) -> Replies {
     }
     thread::spawn(move || {
         if let Err(e) = read(input, &to_workers, &to_order) {
-            // Nobody waits for it any more where the writer has stopped.
+            // This fails only if the replies are no longer taken. Then nobody needs the error.
             let _ = to_order.send(Err(e));
         }
     });
@@ -58,12 +59,12 @@ fn answer(work: &Mutex<Receiver<Work>>) {
             reply.refused += u64::from(record[4] == 3);
             reply.records.extend(record);
         }
-        // Nobody waits for it any more where the writer has stopped.
+        // This fails only if the replies are no longer taken. Then nobody needs this one.
         let _ = next.reply.send(reply);
     }
 }
 
-/// Hands over whole slots as soon as they are there, and at the end of the input a short one as it is.
+/// Passes on whole slots as soon as they have been read, and a short last slot at the end of the input.
 fn read(
     mut input: Box<dyn Read + Send>,
     workers: &SyncSender<Work>,
@@ -89,14 +90,15 @@ fn read(
     }
 }
 
-/// False where nobody takes replies any more.
+/// Passes slots to the workers and their reply to the queue of replies. Returns false if the replies are no longer taken.
 fn hand_over(slots: Vec<u8>, workers: &SyncSender<Work>, order: &SyncSender<Awaited>) -> bool {
     let (reply, awaited) = sync_channel(1);
     order.send(Ok(awaited)).is_ok() && workers.send(Work { slots, reply }).is_ok()
 }
 
 impl Replies {
-    /// The next reply in order; none at the end. `idle` is called before a wait, so that what is known is seen.
+    /// Returns the next reply in order, or `None` at the end. If the next block has not been read yet, it calls `idle` before it waits,
+    /// so that the records so far can be written out.
     pub fn next(
         &mut self,
         mut idle: impl FnMut() -> Result<(), Stop>,

@@ -1,4 +1,4 @@
-//! A line on standard error that says how far the work is: only on a terminal, and only after a second.
+//! A line on standard error that shows the progress. It appears only on a terminal, and only after a second.
 
 use std::io::{IsTerminal, Write};
 use std::time::{Duration, Instant};
@@ -27,7 +27,7 @@ impl Progress {
     }
 }
 
-/// The line goes away with the work, before anything else is said.
+/// Clears the line when the work ends, before any other message is printed.
 impl Drop for Progress {
     fn drop(&mut self) {
         if self.shown.is_some() {
@@ -36,7 +36,7 @@ impl Drop for Progress {
     }
 }
 
-/// Puts words in the place of the line. It is a courtesy: the work goes on where it cannot be shown.
+/// Replaces the line with these words. If that fails, the work goes on.
 fn draw(words: &str) {
     let _ = write!(std::io::stderr(), "\r\x1b[K{words}");
 }

@@ -1,15 +1,15 @@
-//! The form of a record: what the rules of the wire ask of its bytes, whatever an entry's numbers mean.
+//! The rules of the format for the bytes of a record. They do not depend on the meaning of an entry's numbers.
 
 use super::{u16_at, u32_at};
 
 pub const HEAD: usize = 16;
 pub const ENTRY: usize = 64;
-/// The room that a record may need: an answer has at most eight entries.
+/// The size of the longest record: an answer with eight entries.
 pub const ROOM: usize = HEAD + 8 * ENTRY;
-/// Where the chosen end stands in an entry.
+/// The position of the chosen end in an entry.
 const CHOSEN: usize = 12;
 
-/// The size that a head asks for, or what is wrong with it.
+/// Returns the size of the record with this head, or what is wrong with the head.
 pub fn size_of(head: &[u8]) -> Result<usize, (usize, String)> {
     let (length, kind, n) = (u32_at(head, 0), u16_at(head, 4), u16_at(head, 14));
     let own = match kind {
@@ -25,7 +25,7 @@ pub fn size_of(head: &[u8]) -> Result<usize, (usize, String)> {
     Ok(4 + own)
 }
 
-/// What is wrong behind a head, in bytes of the size that it asks for.
+/// Checks the rest of a record whose head is correct and whose size is the one that its head gives.
 pub fn behind_head(bytes: &[u8]) -> Result<(), (usize, String)> {
     let number = u16_at(bytes, 14);
     if u16_at(bytes, 4) == 3 && !(1..=14).contains(&number) {
@@ -41,7 +41,7 @@ pub fn behind_head(bytes: &[u8]) -> Result<(), (usize, String)> {
     Ok(())
 }
 
-/// What is wrong with a record that was cut out of its input by its length.
+/// Checks a record that was split off its input by its length. Returns what is wrong with it.
 pub fn framed(bytes: &[u8]) -> Result<(), (usize, String)> {
     if bytes.len() < HEAD {
         return Err((0, format!("length is {}, but no record is shorter than 12", bytes.len() - 4)));

@@ -1,15 +1,15 @@
-//! The records of an input, each cut out by its length alone. Whether one is well-formed is not asked here, so that
-//! those behind a malformed one are found.
+//! Splits an input into records by their lengths alone. It does not check whether a record is well-formed, so it also finds the
+//! records after a malformed one.
 
 use super::{read_full, u32_at, Fault, ROOM};
 use std::io::{self, Read};
 
-/// The bytes of a length, which it does not count.
+/// The size of the length field. The length does not count these bytes.
 const LENGTH: usize = 4;
 
 pub struct Frames<R> {
     input: R,
-    /// Where the record that was read last begins.
+    /// The byte at which the record read last begins.
     pub offset: u64,
     pub number: u64,
     size: usize,
@@ -20,7 +20,7 @@ impl<R: Read> Frames<R> {
         Frames { input, offset: 0, number: 0, size: 0 }
     }
 
-    /// The bytes of the next record; none at the end of the input. After a fault nothing can be cut out.
+    /// Returns the bytes of the next record, or `None` at the end of the input. After a fault the rest cannot be split into records.
     pub fn next(&mut self) -> io::Result<Result<Option<Vec<u8>>, Fault>> {
         let mut bytes = vec![0; ROOM];
         let had = read_full(&mut self.input, &mut bytes[..LENGTH])?;
@@ -49,7 +49,7 @@ impl<R: Read> Frames<R> {
         Ok(Ok(Some(bytes)))
     }
 
-    /// A fault at a place of the record that was read last.
+    /// Returns a fault at a position of the record read last.
     pub fn fault(&self, at: usize, words: String) -> Fault {
         Fault { offset: self.offset + at as u64, number: self.number, words }
     }

@@ -3,7 +3,7 @@
 use super::{f64_at, read_full, u16_at, u32_at};
 use std::io::{self, Read};
 
-/// The bytes of a question.
+/// The size of a question in bytes.
 pub const SLOT: usize = 82;
 const LENGTH: u32 = 78;
 const KIND: u16 = 1;
@@ -34,7 +34,7 @@ impl Question {
         slot
     }
 
-    /// The question in a slot, or the place in the slot that is wrong and why.
+    /// Reads the question in a slot. If it is not a question, returns the position of the fault in the slot and the reason.
     pub fn read(slot: &[u8]) -> Result<Question, (usize, String)> {
         if slot.len() != SLOT {
             return Err((slot.len(), format!("cut short: {} of {SLOT} bytes", slot.len())));
@@ -73,7 +73,7 @@ impl Question {
     }
 }
 
-/// The slots of an input; the last one may be short.
+/// Reads the slots of an input. The last slot may be short.
 pub struct Slots<R> {
     input: R,
     pub number: u64,
@@ -92,7 +92,7 @@ impl<R: Read> Slots<R> {
         Ok(Some(slot).filter(|slot| !slot.is_empty()))
     }
 
-    /// Where the slot that was read last begins.
+    /// Returns the byte at which the slot read last begins.
     pub fn offset(&self) -> u64 {
         (self.number - 1) * SLOT as u64
     }

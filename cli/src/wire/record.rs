@@ -1,10 +1,10 @@
-//! Answers and refusals, read one after the other. What the wire's rules do not allow is a fault.
+//! Reads answers and refusals one after the other. A record that breaks a rule of the format is a fault.
 
 use super::form::{behind_head, size_of, ENTRY, HEAD, ROOM};
 use super::{f64_at, i64_at, read_full, u16_at, u32_at, Fault};
 use std::io::{self, Read};
 
-/// Stations stand 2^20 apart, from -2^32 + 2^20 to 2^34.
+/// The stations are 2^20 apart, from -2^32 + 2^20 to 2^34.
 const STATION: i64 = 1 << 20;
 const FIRST: i64 = STATION - (1 << 32);
 const LAST: i64 = 1 << 34;
@@ -32,12 +32,12 @@ pub struct Record {
 }
 
 impl Entry {
-    /// The bracket's width in k.
+    /// Returns the bracket's width in k.
     pub fn width(&self) -> i64 {
         STATION >> self.halvings
     }
 
-    /// k of the chosen end.
+    /// Returns k of the chosen end.
     pub fn chosen(&self) -> i64 {
         self.low + if self.upper_chosen { self.width() } else { 0 }
     }
@@ -65,7 +65,7 @@ impl Entry {
 }
 
 impl Record {
-    /// The record in bytes whose head and size are known to fit each other.
+    /// Reads a record. The size of the bytes must be the one that their head gives.
     pub fn read(bytes: &[u8]) -> Result<Record, (usize, String)> {
         behind_head(bytes)?;
         let outcome = if u16_at(bytes, 4) == 3 {
@@ -81,7 +81,7 @@ impl Record {
     }
 }
 
-/// The records of an input, up to the first fault.
+/// Reads the records of an input up to the first fault.
 pub struct Records<R> {
     input: R,
     pub offset: u64,
@@ -93,7 +93,7 @@ impl<R: Read> Records<R> {
         Records { input, offset: 0, number: 0 }
     }
 
-    /// The next record; none at the end of the input.
+    /// Returns the next record, or `None` at the end of the input.
     pub fn next(&mut self) -> io::Result<Result<Option<Record>, Fault>> {
         let mut bytes = [0; ROOM];
         let had = read_full(&mut self.input, &mut bytes[..HEAD])?;

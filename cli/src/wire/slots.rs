@@ -1,9 +1,9 @@
-//! The slots of a board that is in order: what each holds for its job.
+//! Reads the slots of a well-formed board: what each slot holds for its job.
 
 use super::{u16_at, u32_at, Outcome, Record, ROOM};
 
 pub const SLOTS: usize = 64;
-/// The bytes of a board; a slot has room for the longest record.
+/// The size of a board in bytes. Each slot has room for the longest record.
 pub const BOARD: usize = SLOTS * ROOM;
 
 const CONFLICT_KIND: u16 = 4;
@@ -12,7 +12,7 @@ const CONFLICT_KIND: u16 = 4;
 pub enum Held {
     Conflict,
     Outcome(Outcome),
-    /// A well-formed answer that the solver does not give: its entries, and what is wrong with them.
+    /// A well-formed answer that the solver cannot have written: the number of its entries, and what is wrong with them.
     Foreign(u16, String),
 }
 
@@ -23,7 +23,7 @@ pub struct Filled {
     pub held: Held,
 }
 
-/// The filled slots of a board; free ones are all zeros.
+/// Returns the filled slots of a board. A free slot is all zeros.
 pub fn filled(board: &[u8]) -> impl Iterator<Item = Filled> + '_ {
     board.chunks(ROOM).filter(|slot| u32_at(slot, 0) != 0).map(|slot| {
         let held = match u16_at(slot, 4) {

@@ -9,14 +9,14 @@ fn entry(low: i64) -> Entry {
     Entry { low, halvings: 18, upper_chosen: true, v1: [1.0; 3], v2: [2.0; 3] }
 }
 
-/// A curve that falls, with some void stations.
+/// A falling curve with some void stations.
 fn curve(chosen: Vec<Place>) -> Curve {
     let time = |i: i32| Some(1e6 / f64::from(i + 1)).filter(|_| !(50..60).contains(&i));
     let stations = (0..8_191).map(|i| (f64::from(i - 4_095) / 4_096.0, time(i))).collect();
     Curve { wanted: 300.0, stations, chosen }
 }
 
-/// Whether tags are closed in their order, attributes quoted and characters escaped.
+/// Reports whether tags are closed in the right order, attributes are quoted and characters are escaped.
 fn is_well_formed(text: &str) -> bool {
     let mut open = Vec::new();
     for part in text.split('<').skip(1) {

@@ -1,7 +1,7 @@
 use super::*;
 use crate::plot::curve::Curve;
 
-/// A curve of as many stations as a question without whole revolutions has.
+/// A curve with as many stations as a question without whole revolutions has.
 fn stations(time: impl Fn(usize) -> Option<f64>) -> Vec<Place> {
     (0..20_480).map(|i| ((i as f64 - 4095.0) / 4096.0, time(i))).collect()
 }

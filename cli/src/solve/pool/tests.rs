@@ -1,6 +1,6 @@
 use super::*;
 
-/// Gives a few bytes at a time, then fails if it is told to.
+/// An input that gives at most `step` bytes at a time and then, if `fails` is set, an error.
 struct Drip {
     bytes: Vec<u8>,
     at: usize,
@@ -35,7 +35,7 @@ fn all(input: Drip, jobs: usize) -> (Vec<u8>, u64, bool) {
     (records, questions, false)
 }
 
-/// Job 105 of the samples, which is refused at the entrance, under many job numbers.
+/// Returns copies of job 105 of the samples, which the entrance checks refuse, with the job numbers 1 to `count`.
 fn slots(count: u32) -> Vec<u8> {
     let slot = &include_bytes!("../../../../samples/questions")[5 * SLOT..];
     let numbered = |job: u32| [&slot[..6], &job.to_le_bytes(), &slot[10..]].concat();
