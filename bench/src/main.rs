@@ -16,7 +16,7 @@ use std::process::ExitCode;
 const USAGE: &str = "usage: bench time|compare|questions|before
   time      how long each call of the proved code and of the reference takes, and the ratio
   compare   the proved code against the reference on two million roots, one million places, 500 sweeps and
-            20,000 posts of no pattern
+            20,000 posts, all of them random
   questions how many whole questions a second the proved program and the reference answer, and its memory
   before    the proved code of an earlier commit beside today's, on the same operands (bench/run before COMMIT)";
 

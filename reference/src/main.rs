@@ -53,7 +53,7 @@ const USAGE: &str =
                        number of bytes kept and these, and ! if a reset is needed
   link random          the frames of N fresh streams, each cut in several ways
   link told            the lines of the frames on standard input
-  link pieces          one stream in pieces, each a size u16, little-endian, and so many bytes
+  link pieces          one stream in pieces, each a size u16, little-endian, and that many bytes
   link records         an answer or a refusal for each question of these pieces
   link random_pieces   N fresh questions in pieces, with an ending by the seed
   link answer          an answer or a refusal for each question of the pieces on standard input";
