@@ -42,7 +42,7 @@ fn row(number: u16) -> &'static str {
              stations are not seen"
         }
         12 => "unknown: no transfer was found, but at least one station has no time, so nothing follows",
-        13 => "more than eight transfers were found, and an answer holds at most eight",
+        13 => "more than eight crossings were found, and an answer holds at most eight",
         14 => "a velocity of at least one transfer is not finite",
         _ => "not a number of the table",
     }
