@@ -17,11 +17,11 @@ infix 20 _∈_
 abbrev pub _∈_ : List ℕ → List (List ℕ) → Type 0
 m ∈ ms = List·Memᴰ m ms
 
--- Some element of the list is of the given job.
+-- Some element of the list has the given job.
 abbrev pub SomeOf : ℕ → List (List ℕ) → Type 0
 SomeOf job cs = (c : List ℕ) × ((c ∈ cs) × (jobOf c ≡ job))
 
--- No element of the list is of the given job.
+-- No element of the list has the given job.
 abbrev pub NoneOf : ℕ → List (List ℕ) → Type 0
 NoneOf job cs = (c : List ℕ) → c ∈ cs → jobOf c ≡ job → ⊥
 
@@ -34,7 +34,7 @@ pub record SameMessages (ms ns : List (List ℕ)) : Type 0 where
 abbrev pub AllBytes : List (List ℕ) → Type 0
 AllBytes ms = (m : List ℕ) → m ∈ ms → AreBytes m
 
--- A message that a board can take: it is well formed, and its job is not 0.
+-- A message that a board takes, unless it is full: a well-formed outcome whose job is not 0.
 pub record Postable (m : List ℕ) : Type 0 where
   pub formed : isOutcome m ≡ true
   pub named : 0 < jobOf m
@@ -45,19 +45,19 @@ pub record CameFor (ms : List (List ℕ)) (job : ℕ) (m : List ℕ) : Type 0 wh
   pub postable : Postable m
   pub for : jobOf m ≡ job
 
--- The messages are over at most 64 different jobs: a list of at most 64 jobs contains the job of every postable
--- message.
+-- The postable messages have at most 64 different jobs: a list of at most 64 jobs contains the job of each of them.
 pub record OverFewJobs (ms : List (List ℕ)) : Type 0 where
   pub jobs : List ℕ
   pub few : length jobs ≤ SLOTS
   pub each : (m : List ℕ) → m ∈ ms → Postable m → List·Memᴰ (jobOf m) jobs
 
--- The only record of the highest revision that came for a job: every other record for this job has a lower revision.
+-- `held` is the only postable message of the highest revision for a job: every other postable message for this job
+-- has a lower revision.
 pub record OneRecord (ms : List (List ℕ)) (job : ℕ) (held : List ℕ) : Type 0 where
   pub came : CameFor ms job held
   pub highest : (m : List ℕ) → CameFor ms job m → (m ≡ held) ⊎ (revisionOf m < revisionOf held)
 
--- Two different records of the given revision came for a job, and no record of a higher revision.
+-- The list has two different postable messages of the given revision for a job, and none of a higher revision.
 pub record TwoDiffer (ms : List (List ℕ)) (job revision : ℕ) : Type 0 where
   pub one : List ℕ
   pub other : List ℕ
@@ -68,13 +68,14 @@ pub record TwoDiffer (ms : List (List ℕ)) (job revision : ℕ) : Type 0 where
   pub differ : one ≡ other → ⊥
   pub highest : (m : List ℕ) → CameFor ms job m → revisionOf m ≤ revision
 
--- Two different records of the highest revision came for the job, and `held` is the conflict at that revision.
+-- The list has two different postable messages of the highest revision for the job, and `held` is the conflict at
+-- that revision.
 pub record InConflict (ms : List (List ℕ)) (job : ℕ) (held : List ℕ) : Type 0 where
   pub revision : ℕ
   pub two : TwoDiffer ms job revision
   pub conflict : held ≡ conflictBytes job revision
 
--- What a board holds for a job: the only record of the highest revision, or a conflict.
+-- What a board holds for a job: the only message of the highest revision, or a conflict.
 abbrev pub HeldFor : List (List ℕ) → ℕ → List ℕ → Type 0
 HeldFor ms job held = OneRecord ms job held ⊎ InConflict ms job held
 

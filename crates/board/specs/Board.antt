@@ -30,7 +30,7 @@ inOrder (suc n) above b =
     let slot = take answerRoom b in
     isZero b || (isFilled slot && ltb above (jobOf slot) && inOrder n (jobOf slot) (drop answerRoom b))
 
--- Whether the bytes are a board: they have the right size, and the slots are in order, none with job 0.
+-- Whether the bytes are a board: they have the right size, and the slots are in order, with job numbers above 0.
 unfoldable pub isBoard : List ℕ → Bool
 isBoard b = eqb (length b) boardSize && inOrder SLOTS 0 b
 
@@ -64,15 +64,16 @@ pub data HeldRising : ℕ → List (List ℕ) → Type 0 where
 
 -- ---- posting a record
 
--- What is held for a job after a record of this job is posted: whichever has the higher revision. If the revisions are
--- equal, the same bytes change nothing, and different bytes make a conflict.
+-- What is held for a job after a record of this job is posted: the old content or the record, whichever has the higher
+-- revision. If the revisions are equal, the same bytes change nothing, and different bytes make a conflict.
 unfoldable pub joined : List ℕ → List ℕ → List ℕ
 joined held new =
     cond (ltb (revisionOf held) (revisionOf new)) new
     (cond (ltb (revisionOf new) (revisionOf held)) held
     (cond (sameBytes held new) held (conflictBytes (jobOf new) (revisionOf new))))
 
--- What is held for all jobs, by rising job number, after a record is posted. `placedOn` applies the limit on the slots.
+-- What is held for all jobs, by rising job number, after a record is posted. This definition ignores the limit of 64
+-- slots; `placedOn` applies it.
 unfoldable pub placed : List (List ℕ) → List ℕ → List (List ℕ)
 placed [] new = new ∷ []
 placed (held ∷ rest) new =

@@ -42,7 +42,8 @@ filledRising (suc n) above b =
     let slot = take answerRoom b in
     isFilled slot && ltb above (jobOf slot) && filledRising n (jobOf slot) (drop answerRoom b)
 
--- The route by which a record of the given job goes into a board, found by counting the slots of lower jobs.
+-- How a record of the given job is put into a board. On a board, the number of slots with lower jobs is the index of
+-- its slot.
 unfoldable pub routeOf : List ℕ → ℕ → Route
 routeOf b job =
     let n = slotsBeforeFree SLOTS b in

@@ -1,5 +1,5 @@
-// Puts a record into a board: finds its index among the slots, moves later slots up if it needs a slot of its own, and
-// changes the slot of its job if there is one.
+// Puts a record into a board. If its job has a slot, that slot is changed. Otherwise the slots of later jobs are moved
+// up, and the record gets a new slot.
 ghost use mathlib.Core.Path.{_≡_};
 ghost use mathlib.Core.Bool.{true};
 ghost use Prim.Native.Nat.{_+_, _*_, _≤_};
@@ -15,10 +15,10 @@ use records::ANSWER_ROOM;
 use records::job_of;
 use records::revision_of;
 
-// How a record of a job goes into a board.
+// How a record is put into a board.
 // - `Joins(from)`: its job has a slot, which starts at byte offset `from`.
 // - `Enters(from, end)`: it gets a new slot at byte offset `from`, and the slots from there up to byte offset `end` are
-//   moved up.
+//   moved up by one slot.
 // - `NoneFree`: its job has no slot, and no slot is free.
 enum Route {
     Joins(usize),
@@ -114,7 +114,8 @@ fn change_of(slot: &[u8], message: &[u8]) -> Change
     Change::Conflict
 }
 
-// Joins a record to the slot of its job.
+// Puts a record into the slot of its job, as `joined` defines: a newer record replaces the content, an older or equal
+// one changes nothing, and a different one of the same revision makes a conflict.
 fn join(slot: &mut [u8], message: &[u8])
     requires { ⌜ now slot ≡ slotOf (contentOf (now slot)) ⌝ }
     ensures { λ _. ⌜ now (slot .exit) ≡ slotOf (joined (contentOf (now (slot .entry))) (now (message .entry))) ⌝ }

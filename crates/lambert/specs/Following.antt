@@ -1,4 +1,4 @@
--- What `lambert` returns about the next slot after it has answered one. Definitions only.
+-- What `answer` returns about the next slot of the input. Definitions only.
 use mathlib.Core.Path.{_≡_}
 use mathlib.Core.Bool.{true, false}
 use mathlib.Core.List.{List}
@@ -7,7 +7,8 @@ use Rattle.slot_records.specs.Inputs.{slotReply}
 use Rattle.lambert.specs.declared.Next.{Next}
 use Rattle.lambert.specs.declared.Next.the-variants.{Another, Last, Failed}
 
--- Whether another slot may follow is what `slotReply` says for the bytes that were read. After a failed write nothing is promised.
+-- `Another` and `Last` say whether another slot may follow, as `slotReply` gives it for the bytes that were read. After a failed
+-- write nothing is promised.
 abbrev pub Follows : List ℕ → Next → Type 0
 Follows came Another = slotReply came .another ≡ true
 Follows came Last = slotReply came .another ≡ false

@@ -7,7 +7,7 @@ use records::ANSWER_ROOM;
 use records::QUESTION_ROOM;
 use standard_input::Got;
 
-// What follows a slot: another slot may follow, none follows, or the slot could not be read or its record not be written.
+// What follows a slot: another slot may follow, no slot follows, or reading the slot or writing its record failed.
 enum Next {
     Another,
     Last,

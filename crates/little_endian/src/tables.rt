@@ -12,8 +12,8 @@ use crate::bytes::put_number;
 // The number of elements of a table. No record has more fields than this.
 pub const PLACES: usize = 18;
 
-// Stores the lowest bytes of each number, as many as its width, and returns true. If the buffer is too short for
-// all of them, it changes nothing and returns false.
+// Stores the lowest bytes of each number, as many as its width, and returns true. If they do not all fit in the
+// buffer, `put_numbers` changes nothing and returns false.
 pub fn put_numbers(out: &mut [u8], widths: [usize; PLACES], values: [u64; PLACES]) -> bool
     ensures room { λ r. ⌜ r ≡ hasRoom (now (out .entry)) (packed widths values) ⌝ }
     ensures bytes { λ _. ⌜ now (out .exit) ≡ written (now (out .entry)) (packed widths values) ⌝ }

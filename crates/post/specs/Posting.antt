@@ -13,7 +13,8 @@ use Rattle.post.specs.declared.Next.{Next}
 use Rattle.post.specs.declared.Next.the-variants.{At, End, Failed}
 
 -- One record is posted. It is at the start of the buffer: n bytes that were read before, and at most `rest` more. The
--- next record starts right after it. Byte offsets in the input are counted modulo 2^64.
+-- next record starts right after it. `place` and `next` are the byte offsets of the two records in the input, counted
+-- modulo 2^64.
 pub record RecordPosting (n rest place next : ℕ) (board buffer after : List ℕ) : Type 0 where
   pub size : ℕ
   pub least : n ≤ size
@@ -21,21 +22,21 @@ pub record RecordPosting (n rest place next : ℕ) (board buffer after : List �
   pub behind : next ≡ (place + size) % 2 ^ 64
   pub posts : after ≡ postOf board (take size buffer) .board
 
--- The board after the rest of a record is read, of which n bytes were read before: the record is posted, or the board
--- stays the same if the rest can't be read.
+-- What happens to the board when the rest of a record is read, of which n bytes were read before: the record is
+-- posted, or the board stays the same if the rest can't be read.
 abbrev pub AfterRest : (n rest place : ℕ) (board buffer after : List ℕ) → Next → Type 0
 AfterRest n rest place board buffer after (At next) = RecordPosting n rest place next board buffer after
 AfterRest n rest place board buffer after End = ⊥
 AfterRest n rest place board buffer after Failed = after ≡ board
 
--- The same, by what comes next in the input. At the end of the input, and after a length above that of the longest
--- record, the board stays the same.
+-- The same, depending on what comes next in the input. At the end of the input, and after a length above that of the
+-- longest record, the board stays the same.
 abbrev pub AfterStart : Start → (n place : ℕ) (board buffer after : List ℕ) → Next → Type 0
 AfterStart start.End n place board buffer after next = (next ≡ End) × (after ≡ board)
 AfterStart (start.Record rest) n place board buffer after next = AfterRest n rest place board buffer after next
 AfterStart start.NoRecord n place board buffer after next = (next ≡ Failed) × (after ≡ board)
 
--- The same, by the first n bytes of the buffer, which determine what comes next.
+-- The same, given the first n bytes of the buffer, which determine what comes next.
 abbrev pub AfterHead : (n place : ℕ) (board buffer after : List ℕ) → Next → Type 0
 AfterHead n place board buffer after next = AfterStart (startOf (take n buffer)) n place board buffer after next
 

@@ -18,7 +18,7 @@ unfoldable pub refusalRecord : List ℕ → ℕ → List ℕ
 refusalRecord question n =
     cond (eqb n 1) (refusalBytes 0 0 n) (refusalBytes (jobOf question) (revisionOf question) n)
 
--- The record of a question that was judged.
+-- The record of a question, given the verdict of the entrance checks.
 abbrev pub recordAfter : List ℕ → Judged → List ℕ
 recordAfter question (Refused n) = refusalRecord question n
 recordAfter question (Accepted p) =
@@ -35,6 +35,7 @@ pub record Output : Type 0 where
   pub size : ℕ
   pub buffer : List ℕ
 
+-- The output of `write_record` for a question and a buffer.
 unfoldable pub outputOf : List ℕ → List ℕ → Output
 outputOf question buffer =
     cond (ltb (length buffer) answerRoom) (record { size = 0; buffer = buffer })

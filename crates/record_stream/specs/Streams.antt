@@ -1,6 +1,6 @@
--- Records one after another in an input, each found by its own length field, and the board that they make (01, Records
--- on the wire; 02, A1). Writing no board after a length above that of the longest record is our own choice. Definitions
--- only.
+-- Records one after another in an input, each as long as its length field says, and the board that results from posting
+-- them (01, Records on the wire; 02, A1). Writing no board after a length above that of the longest record is our own
+-- choice. Definitions only.
 use Prim.Native.Nat.{ℕ, zero, suc, _+_, _-_}
 use mathlib.Core.Bool.{Bool, true, false, cond}
 use mathlib.Core.List.{List, [], _∷_}
@@ -16,7 +16,7 @@ use Rattle.record_stream.specs.declared.Start.the-variants.{End, Record,
 abbrev pub longestRest : ℕ
 longestRest = answerRoom - LENGTH .width
 
--- What comes next in an input, by its next bytes: as many as a length field has, or fewer at the end of the input.
+-- What comes next in an input, given its next bytes: as many as a length field has, or fewer at the end of the input.
 -- - `End`: there are no bytes.
 -- - `Record`: a record, with the number of its bytes that follow these. That number is 0 if the input ends within the
 --   length field.
@@ -64,7 +64,7 @@ streamOf input = streamIn (length input) input
 unfoldable pub boardAfter : List ℕ → List ℕ → List ℕ
 boardAfter board input = cond (streamOf input .whole) (postAll board (streamOf input .records)) []
 
--- One step of `boardAfter`, by what comes first in the input. At the end of the input the board so far is written.
+-- One step of `boardAfter`, given what comes first in the input. At the end of the input the board so far is written.
 -- After a length above that of the longest record nothing is written. Otherwise the first record is posted, and the
 -- remaining input follows.
 abbrev pub boardStep : Start → List ℕ → List ℕ → List ℕ

@@ -9,6 +9,7 @@ use mathlib.Core.List.{List, [], _∷_, _++_}
 use lib.Dec.{eqb}
 use Rattle.little_endian.specs.Bytes.{bytesOf, numberAt}
 
+-- A field of a record: its offset and its width in bytes.
 pub record Field : Type 0 where
   pub offset : ℕ
   pub width : ℕ
@@ -124,7 +125,8 @@ refusalKind = 3
 abbrev pub conflictKind : ℕ
 conflictKind = 4
 
--- The sizes in bytes of a question, an answer's head, an entry and a conflict. The tables end there (proofs/Tables.antt).
+-- The sizes in bytes of a question, an answer's head, an entry and a conflict. Each table of fields ends at this size
+-- (proofs/Tables.antt).
 abbrev pub questionSize : ℕ
 questionSize = 82
 
@@ -185,7 +187,7 @@ encode [] vs = []
 encode (f ∷ fs) [] = []
 encode (f ∷ fs) (v ∷ vs) = bytesOf (f .width) v ++ encode fs vs
 
--- The kind, the job and the revision in a record's bytes, and the number of a refusal or of an answer's entries.
+-- The kind, the job and the revision in a record's bytes, and the number of a refusal or the number of entries of an answer.
 abbrev pub kindOf : List ℕ → ℕ
 kindOf s = valueOf KIND s
 
@@ -198,7 +200,7 @@ revisionOf s = valueOf REVISION s
 abbrev pub numberOf : List ℕ → ℕ
 numberOf s = valueOf NUMBER s
 
--- The size of the record at the start of the bytes, according to its length.
+-- The size of the record at the start of the bytes, according to its length field.
 abbrev pub sizeOf : List ℕ → ℕ
 sizeOf s = valueOf LENGTH s + LENGTH .width
 

@@ -13,7 +13,7 @@ pub fn length_of(s: &[u8]) -> u32
     u32_at(s, 0)
 }
 
-// Returns the size of the record at the start of the bytes, according to its length.
+// Returns the size of the record at the start of the bytes, according to its length field.
 pub fn size_of(s: &[u8]) -> usize
     ensures { λ r. ⌜ r ≡ sizeOf (now (s .entry)) ⌝ }
 {

@@ -1,6 +1,6 @@
-// Reading and writing the records of 01, and the conflict of a board's slot (02, A1). Reading accepts any
-// bytes, and a byte past the end counts as 0. Writing starts at the first byte of the buffer. If the buffer is
-// too short, it changes nothing and returns false.
+// Reading and writing the records of 01, and the conflict of a board's slot (02, A1). Reading accepts any bytes, and
+// a byte past the end counts as 0. Writing starts at the first byte of the buffer. If the buffer is too short, a
+// write changes nothing and returns false.
 ghost use mathlib.Core.Path.{_≡_};
 ghost use Rattle.records.specs.Constants.{layoutConstants};
 
@@ -122,8 +122,8 @@ struct Constants {
     last_number: u16,
 }
 
-// Returns the public constants. No code calls this function: it exists for its
-// contract, which says that they are those of the layout.
+// Returns the public constants. No code calls this function. It exists for its contract, which says that the
+// constants are those of the layout.
 fn public_constants() -> Constants
     ensures { λ r. ⌜ r ≡ layoutConstants ⌝ }
 {

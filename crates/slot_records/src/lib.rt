@@ -1,5 +1,5 @@
 // Writes the whole record of a question into a buffer that has room for any record, and decides what to write for one slot of an input.
-// The programs that answer questions use these functions.
+// Here a slot is 82 bytes of the input, not a slot of a board. The programs that answer questions use these functions.
 ghost use mathlib.Core.Path.{_≡_};
 ghost use lib.ListN.{length, take};
 ghost use Rattle.question_record.specs.Record.{recordOf};
