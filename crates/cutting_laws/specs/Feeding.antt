@@ -26,7 +26,7 @@ givenBy Nothing bytes = []
 givenBy BadLength bytes = map refusal (refusalOf BadLength)
 givenBy NeedsReset bytes = []
 
--- The result of feeding: what was given out, in order, the state kept, and the bytes that no call took.
+-- The result of feeding: what the calls gave out, in order, the state of the reader afterwards, and the bytes that no call took.
 pub record Fed : Type 0 where
   pub given : List Given
   pub reader : Reader
@@ -35,12 +35,12 @@ pub record Fed : Type 0 where
 abbrev pub fed : List Given → Reader → List ℕ → Fed
 fed gs r left = record { given = gs; reader = r; left = left }
 
--- A result of feeding, with what earlier calls gave out put before it.
+-- The result of feeding, with the output of earlier calls put before its own.
 abbrev pub prepend : List Given → Fed → Fed
 prepend gs f = fed (gs ++ f .given) (f .reader) (f .left)
 
 -- Passes in a piece, and passes in again the bytes that a call did not take, in at most the given number of calls. If a reset is needed,
--- every call takes nothing.
+-- no call takes a byte.
 unfoldable pub feedFor : ℕ → Reader → List ℕ → Fed
 feedFor zero r piece = fed [] r piece
 feedFor (suc calls) r piece =
@@ -77,7 +77,8 @@ pub data StreamHolds : List ℕ → List Given → Reader → Type 0 where
   next-question : {stream : List ℕ} {gs : List Given} {r : Reader} {size : ℕ} → Verdict stream (Question size)
       → StreamHolds (drop size stream) gs r → StreamHolds stream (question (take size stream) ∷ gs) r
 
--- The bytes of a question: there are as many as its length says, and the length is in force. The solver judges any other fault.
+-- The bytes of a question: their number is the size that their length field gives, and that length is in force. The reader leaves all
+-- other faults to the solver.
 pub record IsQuestion (bytes : List ℕ) : Type 0 where
   pub sized : length bytes ≡ sizeOf bytes
   pub in-force : isQuestionLength (valueOf LENGTH bytes) ≡ true
@@ -96,8 +97,8 @@ pub record TakenWhole (stream : List ℕ) (f : Fed) : Type 0 where
   pub not-finished : Verdict (keptOf (f .reader)) Nothing
   pub nothing-left : f .left ≡ []
 
--- A stream with a refused length: the questions before it were given out, and then the refusal, once. Bytes from that length on were
--- taken and dropped. The reader keeps none, and the bytes after the dropped ones are left.
+-- A stream with a refused length: the questions before it were given out, and then the refusal, once. The bytes `dropped`, which begin
+-- with that length, were taken and dropped. The reader keeps no bytes, and the bytes after the dropped ones are left.
 pub record TakenToRefusal (stream : List ℕ) (f : Fed) : Type 0 where
   pub questions : List (List ℕ)
   pub all : AllQuestions questions

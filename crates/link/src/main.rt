@@ -111,7 +111,8 @@ fn read_bytes(reader: Reader, bytes: &mut [u8], size: usize) -> Fed
     }
 }
 
-// Prints that the end of the input cut a piece short, and returns what follows: the input has ended, unless feeding has stopped before.
+// Prints that the end of the input cut a piece short, and stops reading. `ended` is true in the result unless feeding had already
+// stopped.
 fn cut_short(fed: Fed) -> Fed {
     say_cut();
     let reader = fed.reader;
@@ -136,7 +137,8 @@ fn cannot_read(reader: Reader) -> Fed {
 }
 
 // Passes in a piece, and passes in again the bytes that a call did not take. Each call takes at least one byte while some are left and no
-// reset is needed, so there are enough calls for the piece. If more is to be read, the returned reader is the one after the whole piece.
+// reset is needed, so one call more than the piece has bytes is enough. If more is to be read, the returned reader is the one after the
+// whole piece.
 fn feed(reader: Reader, piece: &[u8]) -> Fed
     ensures { λ r. ⌜ (r .more ≡ true → r .reader ≡ readerAfter reader (now (piece .entry))) ⌝ }
 {

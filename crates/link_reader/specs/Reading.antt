@@ -36,7 +36,7 @@ isAmong n (m ∷ ms) = eqb n m || isAmong n ms
 abbrev pub isQuestionLength : ℕ → Bool
 isQuestionLength n = isAmong n questionLengths
 
--- The result for the bytes held, which are the kept bytes followed by the piece. The length is judged once its four bytes are in.
+-- The result for the bytes held, which are the kept bytes followed by the piece. The length is judged once its four bytes have arrived.
 unfoldable pub judged : List ℕ → Came
 judged held =
     cond (ltb (length held) (LENGTH .width)) Nothing
