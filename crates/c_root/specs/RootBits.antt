@@ -1,4 +1,4 @@
--- A square root from 64 bits to 64 bits. Definitions only.
+-- The square root, with the operand and the root given as their 64 bits. Definitions only.
 use Prim.Native.Nat.{ℕ}
 use Rattle.float64.specs.Notation.{bits, bitsOf}
 use Rattle.float64.specs.Root.{rootOf}

@@ -1,5 +1,5 @@
-// The square root from 64 bits to 64 bits, for programs in other languages and for comparisons with
-// the reference program.
+// The square root, with the operand and the root passed as their 64 bits, for programs in other
+// languages and for comparisons with the independent program.
 ghost use mathlib.Core.Path.{_≡_};
 ghost use Rattle.c_root.specs.RootBits.{rootBitsOf};
 use float64::Root;

@@ -22,6 +22,6 @@ foundNumber found = walkNumber (found .walk) + found .count
 abbrev pub searchFor : ℕ → ℕ → ℕ → Search
 searchFor b revolutions w = record { triangle = withLambda b; revolutions = revolutions; wanted = bits w }
 
--- The number for the sweep of the search that `searchFor` gives.
+-- The result, as one number, of the sweep for the search that `searchFor` gives.
 unfoldable pub sweepNumberOf : ℕ → ℕ → ℕ → ℕ
 sweepNumberOf b revolutions w = foundNumber (sweepFor (searchFor b revolutions w))

@@ -1,4 +1,4 @@
--- The time at a place from 64 bits to 64 bits. Definitions only.
+-- The time at a place, with L and the time given as their 64 bits. Definitions only.
 use Prim.Native.Nat.{ℕ}
 use lib.IntN.{ℤ}
 use Rattle.float64.specs.Notation.{_⊖_, _⊗_, bits, 0F, 1F}
@@ -9,6 +9,7 @@ use Rattle.flight_time.specs.Time.{timeOf, placeBits}
 unfoldable pub withLambda : ℕ → Triangle
 withLambda b = record { lambda = bits b; semiperimeter = 1F; chord = 1F ⊖ bits b ⊗ bits b; rho = 0F; sigma = 1F }
 
--- The bits of the time at the place k, for the L with the bits b, or all ones if the place is void.
+-- The bits of the time at the place k with the given number of whole revolutions, for the L with the bits b, or all ones
+-- if the place is void.
 unfoldable pub timeBitsOf : ℕ → ℤ → ℕ → ℕ
 timeBitsOf b k revolutions = placeBits (timeOf (withLambda b) k revolutions)

@@ -1,5 +1,6 @@
-// The time at a place and the number of crossings of a sweep, from 64 bits to 64 bits, for programs
-// in other languages and for comparisons with the reference program.
+// The time at a place, and the number of crossings of a sweep. Every f64 is passed and returned as
+// its 64 bits. This is for programs in other languages and for comparisons with the independent
+// program.
 ghost use mathlib.Core.Path.{_≡_};
 ghost use Rattle.c_time.specs.SweepNumber.{walkNumber, sweepNumberOf};
 ghost use Rattle.c_time.specs.TimeBits.{withLambda, timeBitsOf};

@@ -15,7 +15,7 @@ use Rattle.records.specs.declared.Question.{Question}
 abbrev pub 2^60F : Float
 2^60F = bits 0x43B0_0000_0000_0000
 
--- The largest M, the number of whole revolutions, that check 6 accepts.
+-- The largest number M of whole revolutions that check 6 accepts.
 abbrev pub mostRevolutions : ℕ
 mostRevolutions = 16
 

@@ -1,9 +1,10 @@
-// From the bit pattern of a positive f64 to the whole number whose root is computed.
+// Finds the whole number whose root is computed, from the bit pattern of a positive f64.
 ghost use Prim.Native.Nat.{ℕ, _≤_, _<_, _^_};
 ghost use Rattle.float64.specs.Internals.{infinityBits, unitsOfBits, Normalised, Scaled};
 use crate::bit_patterns::LEADING_DIGIT;
 
-// The number a * 2^54 whose root is computed, and k, the exponent of the power of two that this root then lacks.
+// The operand of the whole square root is a * 2^54. The last of the 53 digits of the rounded root counts 2^(k + 484) units
+// of 2^-1074.
 pub(crate) struct Operand {
     pub(crate) a: u64,
     pub(crate) k: u64,
@@ -27,7 +28,7 @@ pub(crate) fn operand_of(b: u64) -> Operand
 }
 
 // Returns the operand for a number, given its first 53 binary digits and its length in binary digits. If the length is even,
-// `a` gets one digit more, so that the factor left out is a power of four.
+// `a` gets one digit more, so that the power of two that is left out is a power of four.
 fn scaled(digits: u64, length: u64) -> Operand
     requires { ⌜ (digits < 2 ^ 53) × (length ≤ 2098) ⌝ }
     ensures scaled { λ r. ⌜ ((n : ℕ) → Normalised n digits length → Scaled n (r .a) (r .k)) ⌝ }

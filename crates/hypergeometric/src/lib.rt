@@ -37,7 +37,7 @@ fn next_c(w: f64) -> f64
     (1.0 + w) / 2.0
 }
 
-// Steps 2 and 3: returns η and the results of halving the angle three times, at the place x. The
+// Steps 2 and 3: returns η and the results of halving the angle three times, for the given x. The
 // caller passes u = 1 - x^2. The result is void if a root is refused.
 pub fn half_angles(l: f64, x: f64, u: f64) -> HalfAngles
     ensures { λ r. ⌜ r ≡ halfAnglesOf l x u ⌝ }

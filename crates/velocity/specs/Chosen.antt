@@ -7,7 +7,7 @@ use Rattle.float64.specs.declared.Vector.{Vector}
 use Rattle.velocity.specs.declared.Velocities.{Velocities}
 
 -- Whether the upper end is chosen, given the time at the lower end, the time at the upper end, and the wanted time: it is chosen if it
--- has the smaller |T − T*|. A tie takes the lower end, and so does a comparison with a NaN.
+-- has the smaller |T − T*|. On a tie the lower end is chosen, and also if one of the differences is a NaN.
 unfoldable pub upperChosen : Float → Float → Float → Bool
 upperChosen lower upper wanted = magnitudeOf (upper ⊖ wanted) ≺ magnitudeOf (lower ⊖ wanted)
 

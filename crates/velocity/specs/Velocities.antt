@@ -1,4 +1,4 @@
--- The terminal velocities at a place (01, Velocities; 001, equations 26 to 30). Definitions only.
+-- The terminal velocities at a place (01, Velocities). Definitions only.
 use lib.IntN.{ℤ}
 use lib.Ieee.{Float, neg}
 use Rattle.float64.specs.Notation.{_⊕_, _⊖_, _⊗_, _⊘_, 2F}
@@ -11,11 +11,12 @@ use Rattle.flight_time.specs.Steps.{xOf, uOf}
 use Rattle.velocity.specs.declared.Speeds.{Speeds}
 use Rattle.velocity.specs.declared.Velocities.{Velocities}
 
--- γ = √((mu·s)/2), or NaN if that root is refused.
+-- γ = √((mu·s)/2), or a NaN if that root is refused.
 unfoldable pub gammaOf : Float → Float → Float
 gammaOf mu s = rootOrNan ((mu ⊗ s) ⊘ 2F)
 
--- y of step 2 of the time, at x, or NaN if its root is refused. In that case the place has no time.
+-- The y of step 2 of the time, at x, or a NaN if its root is refused. In that case the place has no
+-- time.
 unfoldable pub yOrNan : Float → Float → Float
 yOrNan L x = orNan (yOf L (uOf x))
 
