@@ -24,16 +24,16 @@ middleOf a b = quotZ (a +ℤ b) (pos 2)
 abbrev pub stops : (ℤ → Side) → ℤ → ℤ → Bool
 stops σ a b = same (b -ℤ a) (pos 1) || (isUnknown (σ (middleOf a b)) || (same (middleOf a b) a || same (middleOf a b) b))
 
--- The bracket that results from bisecting the interval from a to b, which was halved h times so far. The middle replaces the upper end if
--- the middle and the lower end are on opposite sides, and it replaces the lower end otherwise. If the two ends are on opposite sides, the
--- replaced end is the one on the middle's own side. The first number limits how many more halvings there are. For a pair, `stops` ends
--- the halving no later than this limit does.
+-- The bracket that results from bisecting the interval from a to b, which is itself the result of h halvings. The middle replaces the
+-- upper end if the middle and the lower end are on opposite sides, and it replaces the lower end otherwise. If the two ends are on
+-- opposite sides, the replaced end is the one on the middle's own side. The first number limits how many more halvings follow. For a pair
+-- this limit has no effect, because `stops` is true by then.
 unfoldable pub bisectOf : (ℤ → Side) → ℕ → ℕ → ℤ → ℤ → Bracket
 bisectOf σ zero h a b = record { lower = a; upper = b; halvings = h }
 bisectOf σ (suc n) h a b =
     cond (stops σ a b) (record { lower = a; upper = b; halvings = h })
     (cond (opposite (σ a) (σ (middleOf a b))) (bisectOf σ n (h + 1) a (middleOf a b)) (bisectOf σ n (h + 1) (middleOf a b) b))
 
--- The sides σ, except that place a has the side `low`, whatever its time.
+-- The sides σ, except that the side of place a is `low`.
 unfoldable pub withSide : (ℤ → Side) → ℤ → Side → ℤ → Side
 withSide σ a low k = cond (same k a) low (σ k)

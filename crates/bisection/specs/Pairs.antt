@@ -9,7 +9,7 @@ use Rattle.stations.specs.Sides.{opposite}
 use Rattle.stations.specs.Grid.{Grid}
 use Rattle.bisection.specs.Halving.{withSide, bisectOf}
 
--- Whether the neighbouring places i and i + 1 have times on different sides.
+-- Whether the neighbouring places i and i + 1 of the grid have times on different sides.
 unfoldable pub crosses : (ℤ → Side) → Grid → ℕ → Bool
 crosses σ g i = opposite (σ (g .place i)) (σ (g .place (i + 1)))
 

@@ -24,8 +24,8 @@ pub struct Bracket {
 }
 
 // Returns the bracket of the pair of stations i and i + 1. `low` is the side of station i, which
-// the caller has already computed. With that side, the bracket's ends are on opposite sides if the
-// two stations are.
+// the caller has already computed. If the two stations are on opposite sides, so are the ends of
+// the bracket.
 pub fn bracket_of(search: Search, low: Side, i: u16) -> Bracket
     ensures { λ r. ⌜ r ≡ bracketFrom (sideAt search) low stations i ⌝ }
 {

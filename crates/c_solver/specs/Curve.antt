@@ -15,17 +15,20 @@ use Rattle.records.specs.Layout.{answerRoom}
 abbrev pub noTime : ℕ
 noTime = 0xFFFF_FFFF_FFFF_FFFF
 
--- The bits of the wanted time of a question that was judged.
+-- The bits of the wanted time, given the verdict of the entrance checks. A refused question has
+-- none.
 abbrev pub wantedAfter : Judged → ℕ
 wantedAfter (Refused n) = noTime
 wantedAfter (Accepted p) = bitsOf (p .wanted)
 
--- How many stations a question that was judged has.
+-- How many stations a question has, given the verdict of the entrance checks. A refused question
+-- has none.
 abbrev pub stationsAfter : Judged → ℕ
 stationsAfter (Refused n) = 0
 stationsAfter (Accepted p) = lastStation p + 1
 
--- The bits of the time at a place, for a question that was judged.
+-- The bits of the time at a place, given the verdict of the entrance checks. A refused question has
+-- no time anywhere.
 abbrev pub timeAfter : Judged → ℤ → ℕ
 timeAfter (Refused n) k = noTime
 timeAfter (Accepted p) k = placeBits (placeOf p k)
@@ -34,10 +37,10 @@ timeAfter (Accepted p) k = placeBits (placeOf p k)
 unfoldable pub wantedBits : List ℕ → ℕ
 wantedBits question = wantedAfter (judgeOf question answerRoom)
 
--- How many stations a question has, judged in the same way.
+-- How many stations a question has, judged with room for the longest answer.
 unfoldable pub stationCount : List ℕ → ℕ
 stationCount question = stationsAfter (judgeOf question answerRoom)
 
--- The bits of the time at a place, for a question judged in the same way.
+-- The bits of the time at a place, for a question judged with room for the longest answer.
 unfoldable pub timeBits : List ℕ → ℤ → ℕ
 timeBits question k = timeAfter (judgeOf question answerRoom) k

@@ -1,6 +1,6 @@
 // The curve of a question, for hosts that draw it: the wanted time T*, the stations, and the time T at any place. T* and T are in the
-// unit of 01, not in seconds. A time is returned as its bits, all of them ones if there is no time. A question that does not pass the
-// entrance checks has no time and no station.
+// triangle's unit of time, not in seconds. A time is returned as its 64 bits; if there is no time, all bits are ones. A question that
+// does not pass the entrance checks has no time and no station.
 ghost use mathlib.Core.Path.{_≡_};
 ghost use Rattle.stations.specs.Stations.{stationOf};
 ghost use Rattle.c_solver.specs.Curve.{wantedBits, stationCount, timeBits};

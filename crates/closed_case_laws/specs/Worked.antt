@@ -17,7 +17,7 @@ use Rattle.solver.specs.Solve.{solveOf, outcomeNumber}
 use Rattle.closed_case_laws.specs.Given.{HALF, ONE, TWO, flat, asked, withLambda}
 
 -- What a case asks for: a root, given the bits of the operand; the time at a place, given the bits of L, k and M; or
--- the number of a question, given its bytes.
+-- the refusal number of a question, given its bytes.
 pub data Case : Type 0 where
   root : ℕ → Case
   time : ℕ → ℤ → ℕ → Case
@@ -39,6 +39,7 @@ resultOf (question s) = aNumber (outcomeNumber (solveOf s (replicate answerRoom 
 unfoldable pub like : ℕ → ℕ → Vector → Vector → ℕ → List ℕ
 like job m p1 p2 mu = asked job m 0 0 p1 p2 mu ONE
 
+-- A case with its expected result.
 pub record Row : Type 0 where
   pub case : Case
   pub result : Result

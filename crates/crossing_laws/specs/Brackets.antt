@@ -36,7 +36,7 @@ pub record IsBracket (σ : ℤ → Side) (a b : ℤ) (initial : ℕ) (r : Bracke
   pub lowerTimed : isUnknown (σ (r .lower)) ≡ false
   pub upperTimed : isUnknown (σ (r .upper)) ≡ false
   pub ends : opposite (σ (r .lower)) (σ (r .upper)) ≡ true
-  -- It is one step wide, or its middle is void.
+  -- Its width is 1, or its middle is void.
   pub stopped : (r .upper ≡ r .lower +ℤ pos 1) ⊎ (isUnknown (σ (middleOf (r .lower) (r .upper))) ≡ true)
   -- Bisection reaches this interval and stops there.
   pub reached : Comes σ a b initial (r .lower) (r .upper) (r .halvings)

@@ -1,5 +1,5 @@
--- What is demanded of `solveOf`, from bytes to bytes: the demands that 01 refers to by number, one by one, and at the end the whole
--- (`Demanded`). In these definitions s is the question and b is the answer buffer. Definitions only.
+-- The demands on `solveOf`, which takes bytes and gives bytes: first each demand that 01 refers to by number, and at the end all of them
+-- together (`Demanded`). In these definitions s is the question and b is the answer buffer. Definitions only.
 use mathlib.Core.Path.{_≡_}
 use mathlib.Core.Bool.{Bool, true, false, cond, not}
 use mathlib.Core.Logic.{_⊎_}
@@ -68,8 +68,8 @@ pub record Demand1 (s b : List ℕ) : Type 0 where
 abbrev pub Past : List ℕ → ℕ → Type 0
 Past s room = (n : ℕ) → conditionOf s room n ≡ false
 
--- The wanted time, with which the time at every station is compared, is finite and above 0. So refusal 11 is a fact about times and not
--- about a NaN. |L| is below 1, as the time at a place requires.
+-- The wanted time, with which the time at every station is compared, is finite and above 0. So refusal 11 never results from comparisons
+-- with a NaN. |L| is below 1, as the time at a place requires.
 pub record InDomain (p : Problem) : Type 0 where
   pub wantedFinite : finiteOf (p .wanted) ≡ true
   pub wantedAbove : (0F ≺ p .wanted) ≡ true
@@ -88,11 +88,11 @@ pub record IsCrossing (p : Problem) (i : ℕ) : Type 0 where
 abbrev pub pairsOf : Problem → List ℕ
 pairsOf p = crossings (sidesOf p) (gridOf p) (lastPlace p)
 
--- The bracket of the pair of places i and i + 1.
+-- The bracket of the pair of places i and i + 1 of the grid.
 abbrev pub bracketAt : Problem → ℕ → Bracket
 bracketAt p i = bracketOf (sidesOf p) (gridOf p) i
 
--- The entry of the pair of places i and i + 1.
+-- The entry of the pair of places i and i + 1 of the grid.
 abbrev pub entryAt : Problem → ℕ → Entry
 entryAt p i = entryFor p (bracketAt p i)
 
@@ -134,7 +134,7 @@ pub record Pairs (p : Problem) : Type 0 where
   pub rising : Rising (pairsOf p)
   pub neighbours : (i : ℕ) → gridOf p .place (i + 1) ≡ gridOf p .place i +ℤ pos (2 ^ (20 - gridOf p .halvings i))
   -- The bracket of a crossing is the interval where the bisection of the pair ends. It is within the pair, its ends are on opposite
-  -- sides, and it is one step wide or has a void middle.
+  -- sides, and its width is 1 or its middle is void.
   pub bracket : (i : ℕ) → IsCrossing p i →
       IsBracket (sidesOf p) (gridOf p .place i) (gridOf p .place (i + 1)) (gridOf p .halvings i) (bracketAt p i)
   -- The entry of a pair has the lower end and the halvings of its bracket.
@@ -143,8 +143,8 @@ pub record Pairs (p : Problem) : Type 0 where
   -- The entry of a crossing has the chosen end and the velocities that 01 gives for its bracket.
   pub chosen : (i : ℕ) → IsCrossing p i → ChosenBy p (bracketAt p i) (entryAt p i)
 
--- The bytes of an accepted answer with n entries: the record at the buffer's start, with one entry for each crossing, the lowest first,
--- and after it the buffer's own bytes.
+-- The bytes of an answer with n entries: the buffer begins with the record, which has one entry for each crossing, the lowest first.
+-- After the record the buffer keeps its old bytes.
 pub record Answer (s b : List ℕ) (n : ℕ) : Type 0 where
   pub many : n ≡ length (pairsOf (problemFrom s))
   pub bytes : solveOf s b .buffer
@@ -168,7 +168,7 @@ pub record Demand3 (s b : List ℕ) : Type 0 where
   pub accepted : Exactly (HasAnswer s b)
       ((1 ≤ length (pairsOf (problemFrom s))) × (length (pairsOf (problemFrom s)) ≤ 8) × FiniteAll (problemFrom s))
   pub answer : (n : ℕ) → solveOf s b .outcome ≡ Answered n → Answer s b n
-  -- Number 11, "no transfer", is given exactly if every place of the grid has a time and there is no crossing.
+  -- Number 11 (no transfer was found) is given exactly if every place of the grid has a time and there is no crossing.
   pub eleven : Exactly (solveOf s b .outcome ≡ Refused 11) (TimedAll (problemFrom s) × NonePair (problemFrom s))
   -- Any other refusal is 12, 13 or 14, each exactly if 01's table says so.
   pub twelve : Exactly (solveOf s b .outcome ≡ Refused 12) (VoidSome (problemFrom s) × NonePair (problemFrom s))

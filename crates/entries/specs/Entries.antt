@@ -22,8 +22,8 @@ use Rattle.velocity.specs.declared.Velocities.{Velocities}
 unfoldable pub placeOf : Problem → ℤ → Place
 placeOf p k = timeOf (p .triangle) k (p .revolutions)
 
--- Whether the upper end is chosen, given the places of both ends. If one of them is void, the lower end is chosen. No end of a crossing's
--- bracket is void.
+-- Whether the upper end is chosen, given the results at both ends, each a time or void. If one of them is void, the lower end is chosen.
+-- No end of a crossing's bracket is void.
 abbrev pub upperOf : Place → Place → Float → Bool
 upperOf (Timed lower) (Timed upper) wanted = upperChosen lower upper wanted
 upperOf (Timed lower) Void wanted = false
@@ -68,7 +68,7 @@ unused =
       v2 = none;
     }
 
--- The list that holds at most `mostEntries` entries: the entries, and unused elements after them.
+-- A list of `mostEntries` elements that begins with the given entries, at most that many, and continues with unused elements.
 abbrev pub places : List Entry → List Entry
 places es = es ++ replicate (mostEntries - length es) unused
 

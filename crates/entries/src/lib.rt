@@ -27,8 +27,8 @@ pub fn place_at(p: Problem, k: i64) -> Place
     flight_time::time_at(triangle, k, p.revolutions)
 }
 
-// Reports whether the upper end is chosen, given the places of both ends. If one of them is void,
-// the upper end is not chosen.
+// Reports whether the upper end is chosen, given the results at both ends, each a time or void. If
+// one of them is void, the upper end is not chosen.
 fn upper_of(lower: Place, upper: Place, wanted: f64) -> bool
     ensures { λ r. ⌜ r ≡ upperOf lower upper wanted ⌝ }
 {

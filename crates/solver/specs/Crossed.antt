@@ -26,7 +26,7 @@ sidesOf p = sideAt (searchOf p)
 abbrev pub lastStation : Problem → ℕ
 lastStation p = lastOf (p .revolutions)
 
--- The grid of a problem: the places that its sweep looks at.
+-- The grid of a problem: the places where its sweep computes the time.
 abbrev pub gridOf : Problem → Grid
 gridOf p = gridFor (searchOf p)
 

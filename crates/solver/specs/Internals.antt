@@ -9,7 +9,8 @@ use Rattle.sweep.specs.declared.Walk.the-variants.{AllTimed, SomeVoid, NinthFou
 abbrev pub velocityNumber : Bool → ℕ
 velocityNumber finite = cond finite 0 14
 
--- The number from 11 to 14 that follows from the walk, the count of crossings and whether all velocities are finite, or 0 if none does.
+-- The refusal number from 11 to 14 that follows from the walk, the count of crossings and whether all velocities are finite, or 0 if
+-- there is no refusal.
 abbrev pub lateNumber : Walk → ℕ → Bool → ℕ
 lateNumber AllTimed count finite = cond (eqb count 0) 11 (velocityNumber finite)
 lateNumber SomeVoid count finite = cond (eqb count 0) 12 (velocityNumber finite)

@@ -6,7 +6,8 @@ use mathlib.Core.Path.{_≡_}
 use lib.IntN.{ℤ, pos, _+ℤ_}
 use Rattle.stations.specs.Stations.{stationOf}
 
--- `place i` is place i. `halvings i` is the number of halvings that the pair of places i and i + 1 begins with.
+-- `place i` is the place with index i. Comments about a grid call it "place i", while "place k" is always the place with x = k/2^32.
+-- `halvings i` is the number of halvings that the pair of places i and i + 1 begins with.
 pub record Grid : Type 0 where
   pub place : ℕ → ℤ
   pub halvings : ℕ → ℕ

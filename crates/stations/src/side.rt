@@ -5,7 +5,7 @@ use crate::Search;
 use flight_time::Place;
 
 // The side of a place. A place with a time is below the wanted time or not below it; an equal time
-// is not below. A void place has no side, and its value is `Unknown`.
+// is not below. The side of a void place is `Unknown`.
 pub enum Side {
     Below,
     NotBelow,
@@ -57,7 +57,7 @@ pub fn are_opposite(a: Side, b: Side) -> bool
     }
 }
 
-// Reports whether a side is `Unknown`, the value for a void place.
+// Reports whether a side is `Unknown`, the side of a void place.
 pub fn is_unknown(side: Side) -> bool
     ensures { λ r. ⌜ r ≡ isUnknown side ⌝ }
 {

@@ -37,7 +37,7 @@ some p (x ∷ xs) = p x || some p xs
 unfoldable pub crossings : (ℤ → Side) → Grid → ℕ → List ℕ
 crossings σ g last = keep (crosses σ g) (upTo last)
 
--- Whether some place is void, from place 0 to place `last`, both included.
+-- Whether some place of the grid is void, from index 0 to index `last`, both included.
 unfoldable pub someVoid : (ℤ → Side) → Grid → ℕ → Bool
 someVoid σ g last = some (λ i. isUnknown (σ (g .place i))) (upTo (last + 1))
 
@@ -45,11 +45,11 @@ someVoid σ g last = some (λ i. isUnknown (σ (g .place i))) (upTo (last + 1))
 unfoldable pub brackets : (ℤ → Side) → Grid → ℕ → List Bracket
 brackets σ g last = map (bracketOf σ g) (crossings σ g last)
 
--- An unused element of the list.
+-- An unused element of the list of brackets.
 abbrev pub blank : Bracket
 blank = record { lower = pos 0; upper = pos 0; halvings = 0 }
 
--- The list of eight elements that holds at most eight brackets: the brackets, and unused elements after them.
+-- A list of eight elements that begins with the given brackets, at most eight, and continues with unused elements.
 abbrev pub eight : List Bracket → List Bracket
 eight bs = bs ++ replicate (8 - length bs) blank
 

@@ -2,7 +2,7 @@
 // input. Each command begins with a u16:
 // - n up to 1,024: a record of n bytes follows, which is posted on the lent part of a buffer.
 // - FFFE: an index (u32) and a byte follow; the byte is stored at that index of the buffer.
-// - FFFD: a number (u32) follows; this many bytes at the start of the buffer are lent as the board from now on.
+// - FFFD: a number n (u32) follows; from now on the first n bytes of the buffer are lent as the board.
 // - FFFF: the list of commands ends. The hash of the board is written, and the next list starts with a board of zeros.
 ghost use Prim.Native.Nat.{_≤_};
 use board::BOARD_SIZE;
@@ -75,7 +75,7 @@ fn run_command(room: &mut [u8], size: usize) -> Next {
     Next::Lend(size)
 }
 
-// Reads the number of bytes to lend. It is at most the size of the buffer.
+// Reads the number of bytes to lend. A number above the size of the buffer counts as that size.
 fn lent_size() -> usize {
     let mut bytes = [0u8; 4];
     io::read_full(STDIN_FILENO, &mut bytes);

@@ -1,5 +1,5 @@
-// Reads frames of 144 bytes, each with a flight: 17 floats and the place k. Writes a line for each: the bits of v1 and v2. The expected
-// output is that of the independent program for the same frames.
+// Reads frames of 144 bytes, each with 17 floats (mu, the triangle, the two radii and the unit vectors) and the place k. Writes a line
+// for each: the bits of v1 and v2. The expected output is that of the independent program for the same frames.
 ghost use Prim.Native.Nat.{_≤_};
 use float64::Vector;
 use geometry::Frame;
