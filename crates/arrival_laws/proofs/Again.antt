@@ -1,7 +1,7 @@
--- A message that came before changes nothing when it comes again, whatever came in between and for however many jobs
--- (`again-later`). The proof uses the invariant `Keeps`. If something is held for the message's job, joining the
--- message to it changes nothing (`holds-again`). If nothing is held for its job, the board is full, so the message is
--- refused.
+-- A message that came before changes nothing when it comes again, whatever messages came in between and however many
+-- jobs they had (`again-later`). The proof uses the invariant `Keeps`. If something is held for the message's job,
+-- joining the message to it changes nothing (`holds-again`). If nothing is held for its job, the board is full, so
+-- the message is refused.
 use mathlib.Core.Path.{_≡_, refl, sym, ap, _∙_}
 use mathlib.Core.List.{List}
 use mathlib.Core.Logic.{inl, inr, ⊎-elim}

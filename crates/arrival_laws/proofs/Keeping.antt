@@ -21,7 +21,7 @@ use Rattle.slots.proofs.Held.{outcome-held}
 use Rattle.arrival_laws.proofs.Joining.{small-revision, Joining, newer, older, again, clash, joining, joined-job}
 use Rattle.arrival_laws.proofs.Placing.{placing, placed-rising, Comes, kept, first, met, comes, stays, arrives, Grown, grown}
 
--- No test is both true and false.
+-- No Boolean is both true and false.
 pub never : {P : Type 0} {t : Bool} → t ≡ true → t ≡ false → P
 never e f = absurd (let z : _≡_ {A = ℕ} 0 1 = cc (e, f) in omega arith)
 
@@ -97,7 +97,8 @@ module _ {seen : List (List ℕ)} {m : List ℕ} where
     now : CameFor (m ∷ seen) (jobOf m) m
     now = record { among = here refl; postable = postable; for = refl }
 
-    -- Joining the new record to what is held for its job gives what is to be held for this job from then on.
+    -- If the new record is joined to what is held for its job, the result is what must be held for this job once the
+    -- record has come.
     holds-joined : {held c : List ℕ} → Joining held m c → HeldFor seen (jobOf m) held → HeldFor (m ∷ seen) (jobOf m) c
     holds-joined (newer l) h =
         inl (record { came = now; highest = λ n c. ⊎-elim inl (λ s. inr (omega (arith, none-higher all h n s))) (which c) })
@@ -129,8 +130,7 @@ module _ {seen : List (List ℕ)} {m : List ℕ} where
 -- ---- the invariant
 
 -- What is held has rising job numbers, and for each job it is what the messages for this job determine. As long as
--- fewer than 64 jobs are held, the job of every postable message is held. So a job gets a slot with its first message,
--- and a job for which a full board has no slot never gets one.
+-- fewer than 64 jobs are held, the job of every postable message is held. On a full board a job may have no slot.
 pub record Keeps (seen held : List (List ℕ)) : Type 0 where
   pub rising : HeldRising 0 held
   pub holds : (c : List ℕ) → c ∈ held → HeldFor seen (jobOf c) c

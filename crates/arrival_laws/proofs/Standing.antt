@@ -23,7 +23,7 @@ use Rattle.arrival_laws.proofs.Posting.{no-room, taken-board, starts-bo
 use Rattle.arrival_laws.proofs.Few.{few}
 use Rattle.arrival_laws.proofs.Keeping.{never, some-came, Keeps, keeps-same, keeps-refused, keeps-more}
 
--- A board for which `Keeps` holds with the messages seen.
+-- The bytes are a board, and `Keeps` holds for the messages seen and what this board holds.
 record On (seen : List (List ℕ)) (b : List ℕ) : Type 0 where
   board : isBoard b ≡ true
   keeps : Keeps seen (heldOn b)

@@ -217,7 +217,7 @@ rising-held above (suc k) (d ∷ ds) (next low held r) e = rising-held (jobOf d)
 
 -- ---- a record that is posted on a board
 
--- Index i is not a slot of the record's job: it is past the filled slots, or its slot has another job.
+-- The slot with index i is not that of the record's job: i is past the filled slots, or the slot has another job.
 abbrev NotThere : List ℕ → List ℕ → ℕ → Type 0
 NotThere b new i = (slotsBeforeFree SLOTS b ≤ i) ⊎ (jobOf (drop (i * answerRoom) b) ≡ jobOf new → ⊥)
 

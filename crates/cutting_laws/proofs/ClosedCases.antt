@@ -1,7 +1,7 @@
 -- Streams fed in pieces, computed by the prover: 01's worked question cut in two, with an empty piece between, and the start of another
 -- question after it (`question-cut`); that question followed by a refused length, which is cut in two (`length-cut`); a question with
--- other faults (`fault-given-out`); a bad length with three of its four bytes in (`not-judged-early`), and one with all four in
--- (`judged-at-once`).
+-- other faults (`fault-given-out`); a bad length of which three of four bytes have arrived (`not-judged-early`), and one of which all
+-- four have (`judged-at-once`).
 use mathlib.Core.Path.{_≡_, refl}
 use mathlib.Core.List.{List, [], _∷_, _++_}
 use Prim.Native.Nat.{ℕ, _+_}

@@ -1,5 +1,5 @@
--- A stream holds only one thing (`holds-one`, by induction on what it holds). So a reader gives out the same and keeps the same however
--- the stream is cut into pieces (`any-cutting`).
+-- The bytes of a stream determine its output and the final state (`holds-one`, by induction on `StreamHolds`). So from any state that a
+-- reader can reach, the output and the final state are the same however the stream is cut into pieces (`any-cutting`).
 use mathlib.Core.Path.{_≡_, refl}
 use mathlib.Core.List.{List, _++_}
 use Prim.Native.Nat.{ℕ}

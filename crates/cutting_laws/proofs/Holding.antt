@@ -1,5 +1,6 @@
--- A reader fed with pieces gives out what the stream of these pieces holds (`holds`). One more piece gives what the longer stream holds
--- (`feed-holds`, by induction on what the stream holds), and so do several (`feed-all-holds`, by induction on the pieces).
+-- A new reader fed with pieces gives out what the stream of these pieces holds (`holds`). Feeding one more piece gives what the longer
+-- stream holds (`feed-holds`, by induction on `StreamHolds`), and so does feeding several (`feed-all-holds`, by induction on the
+-- pieces).
 use mathlib.Core.List.{List, [], _∷_, _++_, append-nil, append-assoc}
 use Prim.Native.Nat.{ℕ, suc, _≤_}
 use native.Mathlib.Omega.{arith}

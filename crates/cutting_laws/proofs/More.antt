@@ -1,5 +1,5 @@
 -- More bytes change the verdict only if it was nothing yet: a bad length remains a bad length (`bad-more`), and a whole question remains
--- a whole question (`whole-more`), because the length's own bytes decide. If more bytes finish a question, it ends within these
+-- a whole question (`whole-more`), because only the bytes of the length decide. If more bytes finish a question, it ends within these
 -- (`part-ends`).
 use mathlib.Core.Path.{_≡_, sym, ap, _∙_}
 use mathlib.Core.List.{List, _++_}
@@ -13,7 +13,7 @@ use Rattle.link_reader.specs.declared.Came.the-variants.{Question, Nothing, Bad
 use Rattle.link_reader.specs.Verdicts.{Verdict, few, bad, part, whole}
 use Rattle.cutting_laws.specs.Feeding.{IsQuestion}
 
--- Once the bytes of a length are in, more bytes do not change its value.
+-- Once all bytes of a length have arrived, more bytes do not change its value.
 value-front : (s p : List ℕ) → LENGTH .width ≤ length s → valueOf LENGTH (s ++ p) ≡ valueOf LENGTH s
 value-front s p n = number-front (LENGTH .width) (LENGTH .offset) s p n
 

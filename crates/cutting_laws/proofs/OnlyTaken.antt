@@ -1,5 +1,5 @@
--- The bytes that a call does not take have no effect on it, whatever the state: the step is the same without them (`only-taken`). So they
--- meet the same reader when they are passed in later, alone or with more bytes after them.
+-- The bytes that a call does not take have no effect on it, whatever the state: the step is the same without them (`only-taken`). So the
+-- next state is the same whether or not these bytes were passed in with the call.
 use mathlib.Core.Path.{_≡_, refl, sym, ap, _∙_}
 use mathlib.Core.Bool.{Bool, true, false, cond}
 use mathlib.Core.List.{List, [], _++_}
@@ -36,7 +36,7 @@ cut-front kept piece size h = by (leb (length kept) size) refl
         take-append-le size kept (take (size - length kept) piece) few ∙ sym (take-append-le size kept piece few)
 
 module _ (r : Reader) (piece : List ℕ) where
-  -- The bytes that a question takes of a piece finish it without the rest of the piece.
+  -- The bytes that a finished question takes from a piece finish it even without the rest of the piece.
   question-alone : {size : ℕ} → Verdict (keptOf r ++ piece) (Question size)
       → Verdict (keptOf r ++ take (size - length (keptOf r)) piece) (Question size)
   question-alone {size} j =

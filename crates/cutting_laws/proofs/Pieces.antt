@@ -29,7 +29,7 @@ none-judged = few (omega arith)
 pub new-holds : StreamHolds [] [] asNew
 new-holds = rw (← new-keeps) (unfinished none-judged)
 
--- An empty rest is not passed in again, and the result is still what the rest holds.
+-- An empty rest is not passed in again. The result is still what the rest holds.
 rest-comes : (q : List ℕ) (f : Fed) → Comes q f → Comes q (cond (eqb (length q) 0) (fed [] asNew []) f)
 rest-comes [] f c = record { holds = new-holds; nothing-left = refl }
 rest-comes (b ∷ q) f c = rw (eqb·suc-zero (length q)) c

@@ -1,7 +1,7 @@
 -- For every state that a reader can reach: a call takes at least one byte of a piece that is not empty, unless it gives B4 (`progress`).
 -- Feeding leaves no byte of a piece if no length was refused (`feeding-ends`), and more calls change nothing (`more-calls`). If a length
--- was refused, the state is `afterRefusal` (`reached-refused`). Each proof goes through the two cases of `Ends` for the rest that led to
--- the state.
+-- was refused, the state is `afterRefusal` (`reached-refused`). Each proof splits on the two cases of `Ends`: the reader keeps
+-- unfinished bytes, or it has refused a length.
 use mathlib.Core.Path.{_≡_, refl, sym, _∙_}
 use mathlib.Core.Bool.{true, false}
 use mathlib.Core.List.{List, [], _∷_}
@@ -44,7 +44,7 @@ feeding-ends r h e piece = by (reached h .ends) e
     by (kept j) f = kept-left piece j
     by (refused-rest j) f = apart (cc)
 
--- Two results of feeding that are what one stream holds are equal.
+-- If two results of feeding are both what the same stream holds, they are equal.
 same-fed : {s : List ℕ} {f g : Fed} → Comes s f → Comes s g → f ≡ g
 same-fed c d =
     let one = holds-one (c .holds) (d .holds) in

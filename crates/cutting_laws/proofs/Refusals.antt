@@ -1,6 +1,6 @@
 -- What follows a refusal. If a reset is needed, a call gives B4, takes nothing and changes nothing (`needs-reset`). A call that refuses a
--- length takes the whole piece and leaves `afterRefusal` (`refused-after`). From then on pieces give nothing, change nothing and are left
--- whole (`refused-feed`, by induction on the calls; `refused-piece`; `refused-all`, by induction on the pieces).
+-- length takes the whole piece and leaves `afterRefusal` (`refused-after`). From then on, feeding gives out nothing, changes nothing and
+-- takes no byte (`refused-feed`, by induction on the calls; `refused-piece`; `refused-all`, by induction on the pieces).
 use mathlib.Core.Path.{_≡_, refl}
 use mathlib.Core.Bool.{true}
 use mathlib.Core.List.{List, [], _∷_}

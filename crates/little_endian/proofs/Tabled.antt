@@ -34,7 +34,7 @@ packed-length (w ∷ ws) (v ∷ vs) h = length-append (bytesOf w v) (packed ws v
     sum : (a b : ℕ) {n : ℕ} → a ≡ w → b ≡ n → a + b ≡ w + n
     sum a b e f = omega arith
 
--- Two runs of stores, the second one right after the first, are one run.
+-- Storing xs and then ys right after them is the same as storing xs ++ ys.
 pub run : (xs ys s : List ℕ) (at : ℕ) → sets (sets s at xs) (at + length xs) ys ≡ sets s at (xs ++ ys)
 run [] ys s at = simp add-zero
 run (x ∷ xs) ys s at =

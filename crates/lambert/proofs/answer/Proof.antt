@@ -1,4 +1,5 @@
--- `answer` is safe, and what it returns about the next slot is what `slotReply` says for this one.
+-- `answer` is safe. If the write succeeds, it reports whether another slot may follow, as
+-- `slotReply` gives it for this slot.
 use borrow.Author.Needs.{needs}
 use mathlib.Core.Path.{_≡_, sym, ap, _∙_}
 use Rattle.slot_records.specs.declared.SlotReply.{SlotReply}

@@ -1,6 +1,6 @@
 -- `post_all` ends, and it changes the board only by posting records. The loop invariant: the board and the buffer keep
--- their sizes, and the board is the first one with the records so far posted on it. The measure is the number of rounds
--- left.
+-- their sizes, and the board is the initial one with the records so far posted on it. The measure is the number of
+-- rounds left.
 use mathlib.Core.Path.{_≡_, refl, sym, ap, subst, _∙_}
 use mathlib.Core.List.{List, [], _∷_, _++_}
 use Prim.Native.Nat.{ℕ}

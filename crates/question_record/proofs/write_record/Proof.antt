@@ -37,7 +37,8 @@ refusal-size-requires c κs = tt
 same-length : tie.Need-same-length
 same-length c = search needs
 
--- Steps back from the point after the question was solved: to the test of the room, and to the start.
+-- These lead from the point after the question was solved back to the test for room (`room-at`) and to the start
+-- (`start-at`).
 abbrev room-at : tie.After-solve → tie.Else1
 room-at c = c .before .before
 

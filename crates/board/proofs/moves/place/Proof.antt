@@ -39,7 +39,7 @@ message-at c = c .before .before .before .before .before .args .message .now
 size : (c : tie.After-route-of) → length (board-at c) ≡ boardSize
 size c = board-size (board-at c) (c .before .before .before .before .before .pre)
 
--- What the route that was found leads to.
+-- The facts that `goes` gives for the route that was found.
 leads : (c : tie.After-route-of) (w : Route) → c .route-of .result ≡ w → Goes (board-at c) (message-at c) w
 leads c w e =
     let read = c .before in
