@@ -1,5 +1,5 @@
--- Times that the prover computes, in addition to 01's worked cases. Each row of the table has L, k, M and the place.
--- One statement covers the whole table (`each-row-holds`).
+-- Times that the prover computes, in addition to 01's worked cases. Each row of the table has L, k, M and the expected
+-- result, a time or void. One statement covers the whole table (`each-row-holds`).
 use mathlib.Core.Path.{_≡_, refl}
 use mathlib.Core.List.{List, [], _∷_, map}
 use Prim.Native.Nat.{ℕ, _+_, _-_, _^_}
@@ -33,8 +33,8 @@ too-low = negℤ (pos (2 ^ 32 - 2 ^ 20 + 1))
 
 -- The first rows are timed: the f64 nearest to π/2 at L = 0 and x = 0, the same at L = -0, then L = 0.6 at x = 0, and
 -- L = 0 at x = 0 with M = 1. Next are two times whose last digits show that the series has sixteen terms, and not
--- fifteen or seventeen. The other rows are void: by a refused root, by a zero divisor, by L (once by a NaN), by M, and
--- by a k just past each end.
+-- fifteen or seventeen. The other rows are void. The reasons are, in this order, a refused root, a zero divisor, L =
+-- -1, L is a NaN, M = 17, and a k just past an end of its range.
 pub rows : List Row
 rows =
     row 0 (pos 0) 0 (Timed (bits 0x3FF9_21FB_5444_2D18))

@@ -1,6 +1,6 @@
--- What a sweep reports for searches that no question leads to, over any grid: a triangle or a number of revolutions outside the range of
--- the time (`nothing-outside`), and a wanted time that is a NaN (`nothing-at-nan`). Also, a place whose side is known has a finite time
--- (`known-finite`).
+-- What a sweep over any grid reports for searches that no question leads to: if L or the number of revolutions is outside the range of
+-- step 1 of the time (`nothing-outside`), and if the wanted time is a NaN (`nothing-at-nan`). Also, a place whose side is known has a
+-- finite time (`known-finite`).
 use mathlib.Core.Path.{_≡_, refl, subst}
 use mathlib.Core.Bool.{Bool, true, false, not, _||_}
 use mathlib.Core.Logic.{_⊎_, ⊎-elim}

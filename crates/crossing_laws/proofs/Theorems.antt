@@ -1,5 +1,5 @@
--- The theorems about a sweep, in terms that a person can compare with 01. They hold for any sides of the places, any grid, and its places
--- from 0 to `last`. The theorems about brackets are `bracket-holds` and `only-one` in BracketLaws.
+-- The theorems about a sweep, stated so that a reader can compare them with 01. They hold for any sides of the places, any grid, and its
+-- places from 0 to `last`. The theorems about brackets are `bracket-holds` and `only-one` in BracketLaws.
 use mathlib.Core.Path.{_≡_, refl, sym, ap, _∙_, subst}
 use mathlib.Core.Bool.{Bool, true, false}
 use mathlib.Core.Logic.{inl, inr, ⊎-elim, _↔_}

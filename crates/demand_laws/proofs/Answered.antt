@@ -1,6 +1,6 @@
--- The bytes and the entries of an answer. Each entry is at its place in the bytes (`entry-place`). It has the bracket of its crossing,
--- and the chosen end and velocities that belong to it (`bracket-of`, `chosen-by`). All velocities are finite exactly if those of each
--- crossing are (`each-finite`, `finite-each`).
+-- The bytes and the entries of an answer. Each entry is at its offset in the bytes (`entry-place`). It has the bracket of its
+-- crossing, and the chosen end and the velocities of that bracket (`bracket-of`, `chosen-by`). All velocities are finite exactly if
+-- those of each crossing are (`each-finite`, `finite-each`).
 use mathlib.Core.Path.{_≡_, refl, sym, ap, _∙_}
 use mathlib.Core.Bool.{Bool, true, false, cond, not, _&&_}
 use mathlib.Core.Logic.{_⊎_, inl, inr, ⊎-elim}

@@ -1,6 +1,6 @@
--- The proof of the demand: `demand-1` for every question and every buffer, and `demand-3` for a question past the entrance checks. Both
--- follow from one equation, `solve-is`: a call gives the number of the first row of 01's whole table that applies, or the answer if none
--- applies.
+-- The proofs of demand 1 for every question and every buffer (`demand-1`), and of demand 3 for a question past the entrance checks
+-- (`demand-3`). Both follow from one equation, `solve-is`: a call gives the number of the first row of 01's whole table that applies, or
+-- the answer if none applies.
 use mathlib.Core.Path.{_≡_, refl, sym, ap, _∙_}
 use mathlib.Core.Bool.{Bool, true, false, cond}
 use mathlib.Core.List.{List, _++_, map}
@@ -252,7 +252,7 @@ module _ (s b : List ℕ) where
           chosen = chosen-by p;
         }
 
-    -- The bytes and the entries of an accepted answer.
+    -- The bytes and the entries of an answer.
     room : answerRoom ≤ length b
     room = accepted-room s (length b) p (accepted-exactly s (length b) .always past)
 

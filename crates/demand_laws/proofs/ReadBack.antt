@@ -1,4 +1,4 @@
--- The numbers in an accepted answer fit their fields on the wire, so reading the answer gives back what was written. For an entry
+-- The numbers in an answer fit their fields on the wire, so reading the answer gives back what was written. For an entry
 -- (`entry-held`): its lower end is between two places of the grid, and it has at most 20 halvings. For the head (`head-held`): its job
 -- and revision come from a question that consists of bytes.
 use mathlib.Core.Path.{_≡_, refl}
@@ -27,7 +27,7 @@ use Rattle.solver.specs.Crossed.{searchOf, gridOf}
 use Rattle.demand_laws.specs.Demand.{IsCrossing, bracketAt, entryAt}
 use Rattle.demand_laws.proofs.Answered.{bracket-of}
 
--- ---- the size of a place between two others: at most the sum of their sizes
+-- ---- `mag` of a place between two others is at most the sum of their `mag`s
 
 above-zero : ℤ → ℕ
 above-zero (pos n) = n

@@ -33,7 +33,7 @@ module _ (es : List Entry) where
   abbrev bytesUpTo : ℕ → List ℕ
   bytesUpTo i = entriesBytes (take i es)
 
-  -- The head's bytes, the first i entries, and the buffer's own bytes after them.
+  -- The head that the buffer begins with, then the first i entries, and then the buffer's own bytes after them.
   unfoldable pub soFar : ℕ → List ℕ → List ℕ
   soFar i buffer = take headSize buffer ++ bytesUpTo i ++ drop (answerSize i) buffer
 
@@ -68,7 +68,7 @@ module _ (es : List Entry) where
         ∙ omega (arith, front-size i few (omega (arith, room)), length-drop (answerSize i) buffer, room)
 
     module _ (i : ℕ) (few : i < length es) (room : answerSize (i + 1) ≤ length buffer) where
-      -- Writing the next entry to the part of the buffer that begins at its place gives `soFar` with one more entry.
+      -- Writing the next entry to the part of the buffer that begins at the entry's offset gives `soFar` with one more entry.
       pub goes-on :
           (d : Entry) (cur : List ℕ) (place : ℕ) → place ≡ answerSize i → cur ≡ soFar i buffer →
           let left = length cur - place in

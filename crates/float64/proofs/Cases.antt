@@ -59,7 +59,7 @@ unfolding finiteOf lt ofBits
 not-zeros b (inl e) l = false≢true (subst (λ (y : ℕ). Positive (ofBits binary64 y)) e l)
 not-zeros b (inr e) l = false≢true (subst (λ (y : ℕ). Positive (ofBits binary64 y)) e l)
 
--- The bits of a positive number. From infinity's pattern up, every pattern is refused except that of -0.
+-- The bits of a positive number. From the pattern of +infinity up, the root of every f64 except -0 is refused.
 at-ones : (s : Bool) (t : ℕ) → rootOf (ofFields binary64 s 2047 t) ≡ Refused
 unfolding rootOf ofFields
 at-ones s t = by (eqb t 0)

@@ -1,4 +1,4 @@
--- `place_at` meets its contract: it returns the place that `time_at` returns.
+-- `place_at` meets its contract: it returns the time or void that `time_at` returns.
 use borrow.Author.Needs.{needs}
 use mir.Facts.{toZ-ofZ}
 use Rattle.entries.specs.Entries.{placeOf}

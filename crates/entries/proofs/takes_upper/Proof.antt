@@ -1,4 +1,4 @@
--- `takes_upper` meets its contract: it compares the places of both ends.
+-- `takes_upper` meets its contract: it passes the results of `place_at` at both ends to `upper_of`.
 use mir.Facts.{toZ-ofZ}
 use mir.Syntax.{w64}
 use mir.Val.{SFits}

@@ -1,4 +1,5 @@
--- `upper_of` meets its contract: the proof goes through the cases of the two places.
+-- `upper_of` meets its contract: the proof splits on whether each of the two results is a time or
+-- void.
 use borrow.Author.Needs.{needs}
 use Rattle.entries.proofs.upper_of.Statement.{statement}
 use Rattle.entries.proofs.upper_of.Tie as tie

@@ -84,7 +84,8 @@ returns c =
 write-answer-requires : tie.Need-write-answer-requires
 write-answer-requires c κs = tt
 
--- Steps back from the point after the answer was written: to the test of the number, and to the result of the sweep.
+-- These lead from the point after the answer was written back to the test of the number (`none-at`) and to the result of the sweep
+-- (`found-at`).
 abbrev none-at : tie.After-write-answer → tie.Else1
 none-at c = c .before .before
 

@@ -1,5 +1,5 @@
--- `station` meets its contract: the sum and the product are far within the range of an i64. The lemmas show this for any first j below
--- 65536 in size and for any spacing up to that of the stations.
+-- `station` meets its contract: the sum and the product are far within the range of an i64. The lemmas show this for any first j whose
+-- `mag` is below 65536, and for any spacing up to that of the stations.
 use borrow.Author.Needs.{needs}
 use mathlib.Core.Path.{_≡_, ap, _∙_}
 use Prim.Native.Nat.{ℕ, _+_, _*_, _≤_, _<_}

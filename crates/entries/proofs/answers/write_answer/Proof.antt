@@ -126,7 +126,7 @@ answer-size-requires-2 c κs = tt
 in-list : (c : tie.In-loop Inv-loop μ-loop) → c .before .loop .i < mostEntries
 in-list c = omega (arith, c .loop-test .taken, few-at (head-at (c .before)) .cut-count .ensures .0)
 
--- In an iteration, the entry's place is within the buffer.
+-- In an iteration, the entry's offset is within the buffer.
 sub-write-entry : tie.Need-sub-write-entry Inv-loop μ-loop
 sub-write-entry c =
     let turn = c .before in
@@ -150,7 +150,7 @@ array-copy-out-write-entry c = in-list (c .before .before)
 write-entry-requires : tie.Need-write-entry-requires Inv-loop μ-loop
 write-entry-requires c κs = tt
 
--- In an iteration, leads from the point where the entry is written back to where its place is computed.
+-- In an iteration, leads from the point where the entry is written back to where its offset is computed.
 abbrev place-at : tie.After-write-entry Inv-loop μ-loop → tie.After-answer-size2 Inv-loop μ-loop
 place-at c = c .before .before .before
 

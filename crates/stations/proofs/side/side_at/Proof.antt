@@ -1,4 +1,4 @@
--- `side_at` meets its contract: it returns the side of the place that `time_at` returns.
+-- `side_at` meets its contract: it passes the result of `time_at`, a time or void, to `side_of`.
 use borrow.Author.Needs.{needs}
 use mir.Facts.{toZ-ofZ}
 use Rattle.stations.specs.Sides.{sideAt}

@@ -1,5 +1,5 @@
--- `side_of` meets its contract: the proof distinguishes a timed from a void place, and the two results of the comparison with the wanted
--- time.
+-- `side_of` meets its contract: the proof splits on whether the place is timed or void, and on the result of the comparison with the
+-- wanted time.
 use borrow.Author.Needs.{needs}
 use Rattle.stations.specs.Sides.{sideOf}
 use Rattle.stations.proofs.side.side_of.Statement.{statement}
