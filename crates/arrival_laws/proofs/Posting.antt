@@ -1,8 +1,8 @@
 -- The cases of `postOf` for one record (`posting`): the refusals in their order, and a record that is taken. A refusal
--- changes nothing (`unchanged`). B3 is given exactly for a new job on a full board (`full-exactly`). A record that is
--- older than the held one, or the same, changes nothing (`older-or-same`). Posting any record a second time changes
--- nothing (`twice`) and has the same result (`twice-result`). From the empty board on, the bytes stay a board whatever
--- is posted (`always-board`), so B0 is never given (`never-b0`).
+-- changes nothing (`unchanged`). B3 is given exactly for a postable record of a new job on a full board
+-- (`full-exactly`). A record that is older than the held one, or the same, changes nothing (`older-or-same`). Posting
+-- any record a second time changes nothing (`twice`) and has the same result (`twice-result`). From the empty board
+-- on, the bytes stay a board whatever is posted (`always-board`), so B0 is never given (`never-b0`).
 use mathlib.Core.Path.{_≡_, refl, sym, ap, _∙_}
 use mathlib.Core.Bool.{Bool, true, false, cond, not, true≢false}
 use mathlib.Core.List.{List, [], _∷_, List·Memᴰ·head as here, List·Memᴰ·tail as there}

@@ -1,6 +1,6 @@
--- One question never gets both an answer and a refusal. With room for an answer, the outcome and the record depend on the question's
--- bytes alone, whatever the buffer held (`same-outcome`, `never-both`) and however often the question is asked. `recording` says how the
--- record follows from the outcome.
+-- If every buffer has room for the longest answer, a question never gets an answer with one buffer and a refusal with another
+-- (`never-both`): the outcome depends on the question's bytes alone, whatever the buffer held (`same-outcome`). A second call changes
+-- nothing. `recording` says how the record follows from the outcome.
 use mathlib.Core.Path.{_≡_, refl, sym, ap, _∙_}
 use mathlib.Core.Bool.{Bool, true, false, cond}
 use mathlib.Core.List.{List, _++_}

@@ -1,6 +1,6 @@
--- What `startOf` gives, by the facts that it tests: the end of the input (`ended`), a length field that is cut short
--- (`cut-short`), a length that is too large (`too-long`), or a record (`followed`). The rest of a record after its
--- length field is never longer than that of the longest record (`rest-short`).
+-- What `startOf` gives in each case: the end of the input (`ended`), a length field that is cut short (`cut-short`),
+-- a length that is too large (`too-long`), or a record (`followed`). The rest of a record after its length field is
+-- never longer than that of the longest record (`rest-short`).
 use mathlib.Core.Path.{_≡_, refl}
 use mathlib.Core.Bool.{Bool, true, false, cond}
 use mathlib.Core.List.{List}

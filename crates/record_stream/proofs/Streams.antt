@@ -1,5 +1,6 @@
--- The stream of an input, without the counter of `streamIn`. An empty input has no records (`no-records`). A record
--- that is as long as its length field says is the first of the stream, and the records of the remaining input follow it
+-- The stream of an input, without the counter of `streamIn`. An empty input has no records (`no-records`). If an input
+-- begins with a message whose size is the one that its length field gives, and which is not longer than the longest
+-- record, this message is the first record of the stream, and the records of the remaining input follow it
 -- (`record-first`). `boardAfter` can be computed one record at a time (`board-by-steps`): depending on what comes first
 -- in the input, the board so far is written, or nothing is written, or the record is posted and the remaining input
 -- follows.
@@ -52,7 +53,7 @@ pub no-records : streamOf [] ≡ record { records = []; whole = true }
 unfolding streamOf
 no-records = no-more 0
 
--- The stream of an input, by what comes first in it.
+-- The stream of an input, given what comes first in it.
 pub by-first : (input : List ℕ) → streamOf input ≡ streamFrom (startIn input) input streamOf
 unfolding streamOf streamIn startOf
 by-first [] = refl

@@ -1,8 +1,7 @@
--- The layout of the question, the answer's head and its entries, the refusal, and the conflict of a board's slot
--- (01, Records on the wire; 02, A1). This file alone defines the offset and width of each field in bytes, and every
--- size, length and kind by name. Definitions only.
--- The contracts of the code tie its tables of widths and its constants to these definitions.
--- `tiles` says that a table has no gap and no overlap.
+-- The layout of the question, the answer's head and its entries, the refusal, and the conflict of a board's slot (01, Records
+-- on the wire; 02, A1). This file alone defines the offset and width of each field in bytes, and every size, length and kind
+-- by name. Definitions only. The contracts of the code tie its tables of widths and its constants to these definitions.
+-- `tiles` tests that a table has no gap and no overlap.
 use Prim.Native.Nat.{ℕ, _+_, _-_, _*_}
 use mathlib.Core.Bool.{Bool, _&&_}
 use mathlib.Core.List.{List, [], _∷_, _++_}
