@@ -25,8 +25,8 @@ new-keeps = refl
 pub kept-is : {s : List ℕ} → Verdict s Nothing → keptOf (keeping s) ≡ s
 kept-is {s} j = laid-front (length s) blank s (omega (arith, part-fits j)) (omega arith) ∙ take-length s
 
--- The step of a call with the piece p if the bytes s are kept, by the verdict on both together. The bytes of a finished question are at
--- the start of its buffer.
+-- The step of a call with the piece p if the bytes s are kept, for each verdict on both together. The bytes of a finished question are
+-- at the start of its buffer.
 pub data Call (s p : List ℕ) : Step → Type 0 where
   nothing : Verdict (s ++ p) Nothing → Call s p (record { next = keeping (s ++ p); taken = length p; came = Nothing; question = blank })
   bad : Verdict (s ++ p) BadLength → Call s p (record { next = afterRefusal; taken = length p; came = BadLength; question = blank })

@@ -19,12 +19,13 @@ use Rattle.bisection.proofs.LowerSide.{own-bracket}
 use Rattle.sweep.specs.Crossings.{upTo, keep, some, crossings, someVoid, brackets, blank, eight, walkOf, sweepOf}
 use Rattle.sweep.proofs.Lists.{some-next, eight-set, brackets-next, all-passed, left-at}
 
--- The side of the place before place i. There is none before the first, so that side is `Unknown`.
+-- The side of the place before place i, or `Unknown` for i = 0, because there is no place before the first.
 unfoldable pub before : (ℤ → Side) → Grid → ℕ → Side
 before σ g zero = Unknown
 before σ g (suc i) = σ (g .place i)
 
--- The walk has passed the places below i: the list holds the brackets of the pairs that cross among them, and there was no ninth.
+-- The walk has passed the places below i. The list holds the brackets of the pairs that cross among them, and there was no ninth.
+-- `void` says whether one of these places is void, and `low` is the side of the last one.
 pub record Passed (σ : ℤ → Side) (g : Grid) (last : ℕ) (list : List Bracket) (count : ℕ) (void : Bool) (low : Side) (i : ℕ) : Type 0 where
   pub within : i ≤ last + 1
   pub here : low ≡ before σ g i

@@ -29,7 +29,8 @@ pub struct Crossings {
     pub walk: Walk,
 }
 
-// Returns the crossings of the wanted time among the places of the search's grid.
+// Sweeps over the stations of a search. Returns the brackets of the first eight crossings, their
+// count, and how the walk ended.
 pub fn find_crossings(search: Search) -> Crossings
     ensures { λ r. ⌜ r ≡ sweepFor search ⌝ }
 {
