@@ -34,7 +34,7 @@ pub record SameMessages (ms ns : List (List ℕ)) : Type 0 where
 abbrev pub AllBytes : List (List ℕ) → Type 0
 AllBytes ms = (m : List ℕ) → m ∈ ms → AreBytes m
 
--- A message that a board takes, unless it is full: a well-formed outcome whose job is not 0.
+-- A message that a board can refuse only because no slot is free (B3): a well-formed outcome whose job is not 0.
 pub record Postable (m : List ℕ) : Type 0 where
   pub formed : isOutcome m ≡ true
   pub named : 0 < jobOf m

@@ -33,8 +33,8 @@ too-low = negℤ (pos (2 ^ 32 - 2 ^ 20 + 1))
 
 -- The first rows are timed: the f64 nearest to π/2 at L = 0 and x = 0, the same at L = -0, then L = 0.6 at x = 0, and
 -- L = 0 at x = 0 with M = 1. Next are two times whose last digits show that the series has sixteen terms, and not
--- fifteen or seventeen. The other rows are void. The reasons are, in this order, a refused root, a zero divisor, L =
--- -1, L is a NaN, M = 17, and a k just past an end of its range.
+-- fifteen or seventeen. The other rows are void. They have, in this order, a refused root, a zero divisor, an L of
+-- magnitude 1, an L that is a NaN, an M of 17, and three times a k just past an end of its range.
 pub rows : List Row
 rows =
     row 0 (pos 0) 0 (Timed (bits 0x3FF9_21FB_5444_2D18))

@@ -1,6 +1,6 @@
 -- If every buffer has room for the longest answer, a question never gets an answer with one buffer and a refusal with another
--- (`never-both`): the outcome depends on the question's bytes alone, whatever the buffer held (`same-outcome`). A second call changes
--- nothing. `recording` says how the record follows from the outcome.
+-- (`never-both`): the outcome depends on the question's bytes alone, whatever the buffer held (`same-outcome`). A second call with
+-- the buffer that the first call left changes nothing. `recording` says how the record follows from the outcome.
 use mathlib.Core.Path.{_≡_, refl, sym, ap, _∙_}
 use mathlib.Core.Bool.{Bool, true, false, cond}
 use mathlib.Core.List.{List, _++_}

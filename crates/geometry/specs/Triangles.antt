@@ -16,7 +16,8 @@ semiperimeterOf r1 r2 c = ((r1 ⊕ r2) ⊕ c) ⊘ 2F
 unfoldable pub atLeastZero : Float → Float
 atLeastZero x = cond (x ≺ 0F) 0F x
 
--- L for the chord c and the semiperimeter s: √(1 − c/s), negated for the long way.
+-- L for the chord c and the semiperimeter s: the root of 1 − c/s, or of 0 if that is below 0, negated for the long
+-- way.
 unfoldable pub lambdaOf : Float → Float → Bool → Float
 lambdaOf c s long = let root = rootOrNan (atLeastZero (1F ⊖ c ⊘ s)) in cond long (neg root) root
 

@@ -1,5 +1,5 @@
--- Records one after another in an input, each as long as its length field says, and the board that results from posting
--- them (01, Records on the wire; 02, A1). Writing no board after a length above that of the longest record is our own
+-- Records one after another in an input, separated by their length fields, and the board that results from posting them
+-- (01, Records on the wire; 02, A1). Writing no board after a length above that of the longest record is our own
 -- choice. Definitions only.
 use Prim.Native.Nat.{ℕ, zero, suc, _+_, _-_}
 use mathlib.Core.Bool.{Bool, true, false, cond}

@@ -1,6 +1,6 @@
 -- For every index that fits in a u16, `mag` of the station's place plus the spacing is at most 2^40, so an i64 holds the place with room
--- to spare (`station-room`). `mag k` is k for k from 0 up, and -(k + 1) for a negative k. This follows from bounds on `mag` of sums and
--- products. The other lemmas are about the next station (`next-station`), the upper station of a pair as the code computes it
+-- to spare (`station-room`). This follows from bounds on `mag` of sums and products. `mag k` is k for k from 0 up, and -(k + 1) for a
+-- negative k. The other lemmas are about the next station (`next-station`), the upper station of a pair as the code computes it
 -- (`upper-read`), and the last index (`last-small`).
 use mathlib.Core.Path.{_≡_, sym, ap, _∙_}
 use mathlib.Core.Bool.{Bool, true, false, cond, not}
