@@ -1,4 +1,4 @@
--- The terminal velocities at a place (01, Velocities). Definitions only.
+-- The terminal velocities at a place (01, Velocities; Gooding's report, equations 26 to 30). Definitions only.
 use lib.IntN.{ℤ}
 use lib.Ieee.{Float, neg}
 use Rattle.float64.specs.Notation.{_⊕_, _⊖_, _⊗_, _⊘_, 2F}
