@@ -52,20 +52,23 @@ fn row(number: u16) -> &'static str {
 mod tests {
     use super::*;
 
-    #[test]
-    fn the_rows_are_those_of_the_format() {
-        let table = include_str!("../../docs/FORMAT.md");
-        for number in 1..=14 {
-            let expected = format!("| {number} | {} |", row(number));
-            assert!(table.lines().any(|line| line == expected), "{expected}");
-        }
+    /// The rows of the table in docs/FORMAT.md, from its heading to the next empty line.
+    fn table() -> Vec<&'static str> {
+        let format = include_str!("../../docs/FORMAT.md");
+        let section = format.split("\n## Numbers of refusal\n").nth(1).expect("the section");
+        let rows = section.lines().skip_while(|line| !line.starts_with("|---"));
+        rows.skip(1).take_while(|line| line.starts_with('|')).collect()
     }
 
     #[test]
-    fn no_number_rules_out_a_transfer() {
-        for number in 1..=14 {
-            let words = words(number).to_lowercase();
-            assert!(words.contains("this does not say that no transfer exists"), "{words}");
-        }
+    fn the_rows_are_those_of_the_format() {
+        let expected: Vec<String> =
+            (1..=14).map(|number| format!("| {number} | {} |", row(number))).collect();
+        assert_eq!(table(), expected);
+    }
+
+    #[test]
+    fn the_row_of_11_does_not_rule_out_a_transfer() {
+        assert!(row(11).contains("This does not say that no transfer exists"));
     }
 }

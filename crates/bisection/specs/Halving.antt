@@ -15,8 +15,8 @@ same (negsuc a) (negsuc b) = eqb a b
 same (pos a) (negsuc b) = false
 same (negsuc a) (pos b) = false
 
--- The middle (a + b)/2. The quotient of an odd sum is rounded toward zero, but in the bisection of a pair no interval wider than 1 has an
--- odd sum.
+-- The middle (a + b)/2. The quotient of an odd sum is rounded toward zero, but in the bisection of a pair of a rising grid (`IsRising`) no
+-- interval wider than 1 has an odd sum.
 abbrev pub middleOf : ℤ → ℤ → ℤ
 middleOf a b = quotZ (a +ℤ b) (pos 2)
 
@@ -27,7 +27,7 @@ stops σ a b = same (b -ℤ a) (pos 1) || (isUnknown (σ (middleOf a b)) || (sam
 -- The bracket that results from bisecting the interval from a to b, which is itself the result of h halvings. The middle replaces the
 -- upper end if the middle and the lower end are on opposite sides, and it replaces the lower end otherwise. If the two ends are on
 -- opposite sides, the replaced end is the one on the middle's own side. The first number limits how many more halvings follow. For a pair
--- this limit has no effect, because `stops` is true by then.
+-- of a rising grid this limit has no effect, because `stops` is true by then.
 unfoldable pub bisectOf : (ℤ → Side) → ℕ → ℕ → ℤ → ℤ → Bracket
 bisectOf σ zero h a b = record { lower = a; upper = b; halvings = h }
 bisectOf σ (suc n) h a b =

@@ -15,8 +15,8 @@ pub const SLOTS: usize = 64;
 // The size of a board in bytes.
 pub const BOARD_SIZE: usize = SLOTS * records::ANSWER_ROOM;
 
-// The result of posting a record. `Taken` includes a record that changes nothing because the board already holds it or
-// a newer one. `Refused` carries the number of the refusal, 0 to 3 for B0 to B3. A refusal changes nothing.
+// The result of posting a record. `Taken` includes a record that changes nothing because the board already holds it, a
+// newer one, or a conflict at its revision. `Refused` carries the number of the refusal, 0 to 3 for B0 to B3. A refusal changes nothing.
 pub enum Posted {
     Taken,
     Refused(u8),

@@ -1,5 +1,5 @@
--- The bounds of every number in the problem of a question that no entrance check refuses: none of its square roots is
--- refused, every number is finite, |L| is below 1, and the wanted time is above 0. Definitions only; proofs/Past.antt
+-- The bounds of every f64 in the problem of a question that no entrance check refuses: none of its square roots is
+-- refused, every f64 is finite, |L| is below 1, and the wanted time is above 0. Definitions only; proofs/Past.antt
 -- shows that the bounds hold (`past-bounds`).
 use mathlib.Core.Path.{_≡_}
 use mathlib.Core.Bool.{true}

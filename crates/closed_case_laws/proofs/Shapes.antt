@@ -16,7 +16,7 @@ use Rattle.geometry.specs.Conditions.{noPlane}
 abbrev at : ℕ → ℕ → ℕ → Vector
 at x y z = record { x = float (pos x); y = float (pos y); z = float (pos z) }
 
--- Two positions, and whether they span no plane.
+-- Two positions, and whether they define no plane.
 pub record Row : Type 0 where
   pub first : Vector
   pub second : Vector

@@ -60,7 +60,8 @@ pub record Demand1 (s b : List ℕ) : Type 0 where
   pub number : (n : ℕ) → solveOf s b .outcome ≡ Refused n → (0 < n) × (n ≤ 14)
   pub untouched : (n : ℕ) → solveOf s b .outcome ≡ Refused n → solveOf s b .buffer ≡ b
 
--- ---- demand 2: no definition is needed here, because each contract says that the code gives what its definition gives, bit for bit
+-- ---- demand 2: no definition is needed here, because the contracts of `solve` and `write_record` say that what they return and what they
+-- leave in the buffer is what `solveOf` and `outputOf` give, bit for bit
 
 -- ---- demand 3: a question past the entrance checks
 

@@ -1,5 +1,5 @@
 // The operations on f64 that the later layers share: the square root (01, Root), the magnitude, the test for finite numbers,
-// and the conversions between an f64 and its 64 bits. Each function accepts any f64 or any 64 bits.
+// and the conversions between an f64 and its 64 bits. Each public function accepts any f64 or any 64 bits.
 ghost use mathlib.Core.Path.{_≡_};
 ghost use Prim.Native.Nat.{_<_};
 ghost use Rattle.float64.specs.Root.{rootOf, rootOfUnits};
@@ -18,7 +18,8 @@ pub use value::is_finite;
 pub use value::magnitude;
 pub use value::to_bits;
 
-// A vector of three components. It represents a position in km, a velocity in km/s, or a direction.
+// A vector of three components. It represents a position in km, a velocity in km/s, a direction, or a cross product of
+// positions in km^2.
 pub struct Vector {
     pub x: f64,
     pub y: f64,

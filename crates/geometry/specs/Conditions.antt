@@ -21,7 +21,7 @@ abbrev pub 2^40F : Float
 unfoldable pub radiusOutside : Shape → Bool
 radiusOutside g = outsideOf 1F 2^40F (g .radius1) || outsideOf 1F 2^40F (g .radius2)
 
--- Check 8: hh ≤ (q1·q2)·2^-40, so the positions span no plane.
+-- Check 8: hh ≤ (q1·q2)·2^-40, so the positions define no plane.
 unfoldable pub noPlane : Shape → Bool
 noPlane g = g .hh ≼ (g .q1 ⊗ g .q2) ⊗ bits 0x3D70_0000_0000_0000
 

@@ -21,7 +21,7 @@ pub fn radius_outside(shape: Shape) -> bool
     outside(1.0, LARGEST_LENGTH, shape.radius1) | outside(1.0, LARGEST_LENGTH, shape.radius2)
 }
 
-// Check 8: reports whether the positions span no plane, which means that hh is at most 2^-40 times
+// Check 8: reports whether the positions define no plane, which means that hh is at most 2^-40 times
 // the product of q1 and q2.
 pub fn no_plane(shape: Shape) -> bool
     ensures { λ r. ⌜ r ≡ noPlane shape ⌝ }

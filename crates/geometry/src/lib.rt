@@ -117,7 +117,7 @@ pub fn shape_of(position1: Vector, position2: Vector, long_way: bool) -> Shape
     }
 }
 
-// Returns the unit vectors of two positions, given their shape. If the positions span no plane, the
+// Returns the unit vectors of two positions, given their shape. If the positions define no plane, the
 // normal is meaningless.
 pub fn frame_of(position1: Vector, position2: Vector, shape: Shape, long_way: bool) -> Frame
     ensures { λ r. ⌜ r ≡ frameOf position1 position2 shape «long_way» ⌝ }

@@ -14,9 +14,10 @@ use Rattle.entrance.specs.Table.{Exactly}
 abbrev pub notQuestion : List ℕ
 notQuestion = refusalBytes 0 0 firstNumber
 
--- The records that a question can get: the refusal with number 1, a refusal with a later number, or an answer with one
--- to eight entries whose chosen ends are 0 or 1. The last two name the question's own job and revision, and this job is
--- not 0.
+-- Every record of a question has one of these forms: the refusal with number 1, a refusal with a later number, or an
+-- answer with one to eight entries whose chosen ends are 0 or 1. The last two name the question's own job and revision,
+-- and this job is not 0. Number 7 never occurs, because a record is made with room for the longest answer; the contract
+-- of `write_record` says so, and this definition does not.
 pub data RecordForm (s : List ℕ) : List ℕ → Type 0 where
   not-question : RecordForm s notQuestion
   refusal : (n : ℕ) → firstNumber < n → n ≤ lastNumber → 0 < jobOf s →

@@ -18,8 +18,8 @@ longestRest = answerRoom - LENGTH .width
 
 -- What comes next in an input, given its next bytes: as many as a length field has, or fewer at the end of the input.
 -- - `End`: there are no bytes.
--- - `Record`: a record, with the number of its bytes that follow these. That number is 0 if the input ends within the
---   length field.
+-- - `Record`: a record, with the number of bytes that its length field says follow. The input may end before them. The
+--   number is 0 if the input ends within the length field.
 -- - `NoRecord`: a length above that of the longest record.
 unfoldable pub startOf : List ℕ → Start
 startOf head =

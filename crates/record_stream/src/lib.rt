@@ -17,7 +17,8 @@ const LONGEST_REST: usize = ANSWER_ROOM - LENGTH_SIZE;
 
 // What comes next in the input.
 // - `End`: the end of the input.
-// - `Record`: a record, with the number of its bytes that follow those already read.
+// - `Record`: a record, with the number of bytes that its length field says follow. The input may end before them. The
+//   number is 0 if the input ends within the length field.
 // - `NoRecord`: a length above that of the longest record, so nothing tells where the next record starts.
 pub enum Start {
     End,

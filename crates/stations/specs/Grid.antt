@@ -1,6 +1,6 @@
--- A grid: places in rising x, numbered from 0, and for each neighbouring pair the number of halvings that its bisection begins with. The
--- sweep is defined over any grid, and a law that needs the places to rise assumes `IsRising`. The grid of a search is `gridFor` in
--- SearchGrid. Definitions only.
+-- A grid: places numbered from 0, and for each neighbouring pair the number of halvings that its bisection begins with. In a rising grid
+-- (`IsRising`) the places are in rising x, as far apart as the halvings say. The sweep is defined over any grid, and a law that needs a
+-- rising grid assumes one. The grid of a search is `gridFor` in SearchGrid. Definitions only.
 use Prim.Native.Nat.{ℕ, _+_, _-_, _^_, _≤_}
 use mathlib.Core.Path.{_≡_}
 use lib.IntN.{ℤ, pos, _+ℤ_}

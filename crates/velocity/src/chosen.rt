@@ -4,7 +4,8 @@ ghost use Rattle.velocity.specs.Chosen.{upperChosen, vectorFinite, veloc
 use crate::Velocities;
 use float64::Vector;
 
-// Reports whether the upper end's time is strictly nearer to the wanted time than the lower end's.
+// Reports whether |upper - wanted| is below |lower - wanted|, each an f64 difference without its sign. A tie and a NaN give
+// false.
 pub fn upper_chosen(lower: f64, upper: f64, wanted: f64) -> bool
     ensures { λ r. ⌜ r ≡ upperChosen lower upper wanted ⌝ }
 {

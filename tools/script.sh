@@ -13,6 +13,13 @@ usage() {
     exit 2
 }
 
+# fault WORDS: prints a fault to standard error and remembers it. A script that looks for faults ends with 'exit $status'.
+status=0
+fault() {
+    echo "${this_script##*/}: $1" >&2
+    status=1
+}
+
 for argument in "$@"; do
     case $argument in
     -h | --help)
