@@ -1,7 +1,7 @@
 mod WholeRoot
 mod Lengths
 mod Significands
-mod Patterns
+pub mod Patterns
 pub mod Comparisons
 mod Magnitudes
 pub mod Bits

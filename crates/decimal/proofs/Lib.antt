@@ -1,0 +1,10 @@
+pub mod Closest
+pub mod Halves
+pub mod Products
+pub mod Values
+pub mod Digits
+pub mod TextBytes
+pub mod NoLineFeed
+pub mod HeldTexts
+pub mod SameTexts
+pub mod ParseCases
