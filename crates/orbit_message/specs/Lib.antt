@@ -1,0 +1,9 @@
+pub mod Ascii
+pub mod Templates
+pub mod Texts
+pub mod Messages
+pub mod Reading
+pub mod Writing
+pub mod Matches
+pub mod Fillings
+pub mod States
