@@ -1,0 +1,4 @@
+pub mod Exactness
+pub mod Refusals
+pub mod RoundTrip
+pub mod Lengths

@@ -1,0 +1,3 @@
+pub mod Exactness
+pub mod RoundTrip
+pub mod Refusals
