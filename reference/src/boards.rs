@@ -1,9 +1,9 @@
 //! The lists of messages on which the board is compared: a fixed set of lists, and any number of random ones.
 
 mod damage;
-mod malformed;
+pub(crate) mod malformed;
 mod meetings;
-mod messages;
+pub(crate) mod messages;
 mod stage;
 mod steps;
 mod stream;

@@ -14,6 +14,8 @@ pub mod landing;
 pub mod link;
 pub mod links;
 pub mod message;
+pub mod opm;
+pub mod opms;
 pub mod places;
 pub mod precise;
 pub mod precision;
