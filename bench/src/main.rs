@@ -2,6 +2,7 @@
 
 #[cfg(feature = "before")]
 mod before;
+mod opms;
 mod posts;
 mod proved;
 mod questions;
@@ -14,9 +15,10 @@ use reference::{root, time};
 use std::process::ExitCode;
 
 const USAGE: &str = "usage: bench time|compare|questions|before
-  time      how long each call of the proved code and of the reference takes, and the ratio
-  compare   the proved code against the reference on two million roots, one million places, 500 sweeps and
-            20,000 posts, all of them random
+  time      how long each call of the proved code and of the reference takes, and the ratio: roots, places,
+            sweeps, posts, and orbit messages that are written and read
+  compare   the proved code against the reference on two million roots, one million places, 500 sweeps,
+            20,000 posts, 16,000 calls that write an orbit message and 34,000 that read one, all of them random
   questions how many whole questions a second the proved program and the reference answer, and its memory
   before    the proved code of an earlier commit beside today's, on the same operands (bench/run before COMMIT)";
 
@@ -30,13 +32,15 @@ fn main() -> ExitCode {
             time_places(root);
             sweeps::time();
             posts::time();
+            opms::time();
             ExitCode::SUCCESS
         }
         "compare"
             if compare_roots(2_000_000)
                 && compare_places(1_000_000)
                 && sweeps::compare(500)
-                && posts::compare(20_000) =>
+                && posts::compare(20_000)
+                && opms::compare(4_000, 12_000, 30_000) =>
         {
             ExitCode::SUCCESS
         }
