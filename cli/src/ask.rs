@@ -1,8 +1,9 @@
 //! `ask`: writes questions as bytes, from options or from a CSV file. If there is a mistake, it writes nothing.
 
-mod fields;
 mod table;
 
+use crate::fields;
+use crate::mistakes::Mistakes;
 use crate::options::Options;
 use crate::stop::{tell, Stop};
 use crate::streams::{Input, Output};
@@ -68,36 +69,4 @@ fn say_mu(text: &str, value: f64) {
     let source = fields::BODIES.iter().find(|(name, ..)| *name == text);
     let source = source.map(|(name, _, source)| format!(" ({name}, {source})")).unwrap_or_default();
     tell(&format!("mu {value:?} km^3/s^2{source}"));
-}
-
-/// The mistakes found so far, each with the option or the line and column where it is.
-#[derive(Default)]
-struct Mistakes {
-    list: Vec<String>,
-}
-
-impl Mistakes {
-    /// The most mistakes that are printed.
-    const TOLD: usize = 20;
-
-    fn take<T: Default>(&mut self, place: &str, read: Result<T, String>) -> T {
-        read.unwrap_or_else(|reason| {
-            self.list.push(format!("{place}: {reason}"));
-            T::default()
-        })
-    }
-
-    /// Stops the command with the mistakes, if there are any.
-    fn stop(&self) -> Result<(), Stop> {
-        let more = self.list.len().saturating_sub(Mistakes::TOLD);
-        let mut told = self.list[..self.list.len() - more].join("\nlambert-cli: ");
-        if more > 0 {
-            told += &format!("\nlambert-cli: and {more} more mistakes");
-        }
-        if told.is_empty() {
-            Ok(())
-        } else {
-            Stop::said(told)
-        }
-    }
 }

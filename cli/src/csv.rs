@@ -1,5 +1,9 @@
 //! CSV as in RFC 4180: a field is quoted if it needs to be, and quotes within it are doubled.
 
+mod columns;
+
+pub use columns::Columns;
+
 /// The fields of a row, and the number of the line on which the row begins.
 #[derive(Debug, PartialEq)]
 pub struct Row {

@@ -1,7 +1,9 @@
-//! Reads questions from a CSV file with a header. The message for a mistake gives its line and, if there is one, its column.
+//! Reads questions from a CSV file with a header.
 
-use super::{fields, say_mu, Mistakes, DEFAULT_REVISION, DEFAULT_REVOLUTIONS};
-use crate::csv::{self, Row};
+use super::{say_mu, DEFAULT_REVISION, DEFAULT_REVOLUTIONS};
+use crate::csv::{self, Columns, Row};
+use crate::fields;
+use crate::mistakes::Mistakes;
 use crate::stop::Stop;
 use crate::streams::Input;
 use crate::wire::Question;
@@ -19,7 +21,7 @@ pub fn questions(input: &mut Input) -> Result<Vec<Question>, Stop> {
         return Stop::said(format!("{}: has no header", input.name));
     };
     let mut mistakes = Mistakes::default();
-    let columns = columns(header, &mut mistakes);
+    let columns = Columns::read(header, &COLUMNS, NEEDED, "a question", &mut mistakes);
     mistakes.stop()?;
     let questions = rows.iter().filter_map(|row| question(row, &columns, &mut mistakes)).collect();
     mistakes.stop()?;
@@ -27,38 +29,16 @@ pub fn questions(input: &mut Input) -> Result<Vec<Question>, Stop> {
     Ok(questions)
 }
 
-/// Returns the columns in the order of the header, and records its mistakes.
-fn columns(header: &Row, mistakes: &mut Mistakes) -> Vec<&'static str> {
-    let mut columns = Vec::new();
-    for name in header.fields.iter().map(|name| name.trim()) {
-        match COLUMNS.iter().find(|column| **column == name) {
-            None => mistakes.list.push(format!("line 1, column {name:?}: is not a column of a question")),
-            Some(column) if columns.contains(column) => {
-                mistakes.list.push(format!("line 1, column {name}: is there twice"));
-            }
-            Some(column) => columns.push(column),
-        }
-    }
-    for column in COLUMNS[..NEEDED].iter().filter(|column| !columns.contains(column)) {
-        mistakes.list.push(format!("line 1, column {column}: is missing"));
-    }
-    columns
-}
-
-fn question(row: &Row, columns: &[&str], mistakes: &mut Mistakes) -> Option<Question> {
-    let line = row.line;
-    if row.fields.len() != columns.len() {
-        let (has, header) = (row.fields.len(), columns.len());
-        let s = if has == 1 { "" } else { "s" };
-        mistakes.list.push(format!("line {line}: has {has} field{s}, but the header has {header}"));
+fn question(row: &Row, columns: &Columns, mistakes: &mut Mistakes) -> Option<Question> {
+    if !columns.fit(row, mistakes) {
         return None;
     }
-    let value = |name: &str| match (cell(row, columns, name), name) {
+    let value = |name: &str| match (columns.cell(row, name), name) {
         (Some(text), _) => text,
         (None, "revision") => DEFAULT_REVISION,
         _ => DEFAULT_REVOLUTIONS,
     };
-    let place = |name: &str| format!("line {line}, column {name}");
+    let place = |name: &str| format!("line {}, column {name}", row.line);
     let mut reals =
         |names: [&str; 3]| names.map(|name| mistakes.take(&place(name), fields::real(value(name))));
     let (r1, r2) = (reals(["r1_x", "r1_y", "r1_z"]), reals(["r2_x", "r2_y", "r2_z"]));
@@ -74,14 +54,10 @@ fn question(row: &Row, columns: &[&str], mistakes: &mut Mistakes) -> Option<Ques
     })
 }
 
-fn cell<'a>(row: &'a Row, columns: &[&str], name: &str) -> Option<&'a str> {
-    columns.iter().position(|column| *column == name).map(|at| row.fields[at].as_str())
-}
-
 /// Prints the value of each body that the file names, once per body.
-fn say_bodies(rows: &[Row], columns: &[&str]) {
+fn say_bodies(rows: &[Row], columns: &Columns) {
     for (name, value, _) in fields::BODIES {
-        if rows.iter().any(|row| cell(row, columns, "mu").is_some_and(|text| text.trim() == name)) {
+        if rows.iter().any(|row| columns.cell(row, "mu").is_some_and(|text| text.trim() == name)) {
             say_mu(name, value);
         }
     }

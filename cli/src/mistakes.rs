@@ -1,0 +1,35 @@
+//! The mistakes in what a command was given. They are collected, so that one run prints them all.
+
+use crate::stop::Stop;
+
+/// The mistakes found so far, each with the option or the line and column where it is.
+#[derive(Default)]
+pub struct Mistakes {
+    pub list: Vec<String>,
+}
+
+impl Mistakes {
+    /// The most mistakes that are printed.
+    const TOLD: usize = 20;
+
+    pub fn take<T: Default>(&mut self, place: &str, read: Result<T, String>) -> T {
+        read.unwrap_or_else(|reason| {
+            self.list.push(format!("{place}: {reason}"));
+            T::default()
+        })
+    }
+
+    /// Stops the command with the mistakes, if there are any.
+    pub fn stop(&self) -> Result<(), Stop> {
+        let more = self.list.len().saturating_sub(Mistakes::TOLD);
+        let mut told = self.list[..self.list.len() - more].join("\nlambert-cli: ");
+        if more > 0 {
+            told += &format!("\nlambert-cli: and {more} more mistakes");
+        }
+        if told.is_empty() {
+            Ok(())
+        } else {
+            Stop::said(told)
+        }
+    }
+}
