@@ -1,4 +1,5 @@
-//! Reads the fields of a question from text. These functions refuse only what a field cannot hold. The solver checks the rest.
+//! Reads the fields of a question, and of a line that asks for an orbit message, from text. These functions refuse only what a field
+//! cannot hold. The proved libraries check the rest.
 
 /// The bodies that `--mu` knows by name: the gravitational parameter in km³/s², and the source of the value. The value is that of
 /// the body alone, without its moons.
@@ -59,6 +60,11 @@ pub fn job(text: &str) -> Result<u32, String> {
 }
 
 pub fn revision(text: &str) -> Result<u32, String> {
+    whole(text, u32::MAX)
+}
+
+/// Reads the number of an entry of an answer.
+pub fn entry(text: &str) -> Result<u32, String> {
     whole(text, u32::MAX)
 }
 

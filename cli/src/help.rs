@@ -9,6 +9,7 @@ lambert-cli: write, solve and read Lambert questions with the proved solver
   lambert-cli plot ...       draws one question: the time over x, and the brackets
   lambert-cli board ...      prints the outcome of each job's highest revision as a table
   lambert-cli check ...      tells whether a file of records or questions is well-formed
+  lambert-cli opm ...        writes transfers as orbit messages for stations, or reads one back
   lambert-cli COMMAND --help
 
 If a file is named '-' or not named, it is standard input or standard output. Messages go to
@@ -107,4 +108,26 @@ Tells whether a file is well-formed. If it is, prints how many records of each o
 questions it has. If it is not, prints the byte, the record and what is wrong.
 
   --questions   the file has questions in slots of 82 bytes (default: records)
+";
+
+pub const OPM: &str = "\
+lambert-cli opm --questions FILE [--job N] [--revision N] [--entry N] TEXTS [RECORDS] [-o OUT]
+lambert-cli opm --questions FILE --list LIST.csv --to FOLDER TEXTS [RECORDS]
+lambert-cli opm --read [FILE] [--json]
+
+Writes the departure state of a transfer, r1 and v1, as an orbit message: a CCSDS orbit parameter
+message with km and km/s, nine decimals and no units. If anything is wrong, nothing is written.
+
+  --questions FILE    the questions, in any order; r1 is that of the same job and revision
+  --job, --revision   the record to take, if there is more than one
+  --entry N           the transfer to take, counted from 1, if the answer has more than one
+  TEXTS               --originator, --object-name, --object-id, --center-name, --ref-frame,
+                      --time-system and --epoch, each with a text of 1 to 60 printable ASCII
+                      characters, and optionally --creation-date (default: now in UTC)
+  --list LIST.csv     a header and a line for each orbit message, with the column job and optionally
+                      revision, entry and any of the texts (object_name, epoch, ...), which go
+                      before the options
+  --to FOLDER         the folder for the orbit messages of the list, JOB-REVISION-ENTRY.opm each
+  --read              prints the six numbers of an orbit message, as exact decimals
+  --json              with --read: prints them as one JSON object
 ";

@@ -1,5 +1,5 @@
-//! The command for people around the proved solver and the proved board. It does not compute transfers or change boards itself:
-//! the functions of `proved` do both.
+//! The command for people around the proved solver, the proved board and the proved orbit messages. It does not compute transfers,
+//! change boards or write orbit messages itself: the functions of `proved` do all three.
 #![deny(unsafe_code)]
 
 mod ask;
@@ -9,6 +9,7 @@ mod csv;
 mod fields;
 mod help;
 mod mistakes;
+mod opm;
 mod options;
 mod orbit;
 mod plot;
@@ -29,13 +30,14 @@ use stop::Stop;
 /// The name of a command, its help text and the function that runs it.
 type Command = (&'static str, &'static str, fn(&[String]) -> Result<u8, Stop>);
 
-const COMMANDS: [Command; 6] = [
+const COMMANDS: [Command; 7] = [
     ("ask", help::ASK, ask::run),
     ("solve", help::SOLVE, solve::run),
     ("show", help::SHOW, show::run),
     ("plot", help::PLOT, plot::run),
     ("board", help::BOARD, board::run),
     ("check", help::CHECK, check::run),
+    ("opm", help::OPM, opm::run),
 ];
 
 fn main() -> ExitCode {

@@ -4,7 +4,7 @@ mod circular;
 mod comma;
 mod json;
 mod pairs;
-mod table;
+pub mod table;
 
 use crate::options::Options;
 use crate::stop::Stop;

@@ -14,7 +14,7 @@ pub use record::{Entry, Outcome, Record, Records};
 /// Defines a function that reads the number at a position of some bytes. It panics if there are too few bytes.
 macro_rules! number_at {
     ($name:ident, $type:ty) => {
-        fn $name(bytes: &[u8], at: usize) -> $type {
+        pub fn $name(bytes: &[u8], at: usize) -> $type {
             const SIZE: usize = std::mem::size_of::<$type>();
             let mut part = [0; SIZE];
             part.copy_from_slice(&bytes[at..at + SIZE]);
@@ -25,6 +25,7 @@ macro_rules! number_at {
 
 number_at!(u16_at, u16);
 number_at!(u32_at, u32);
+number_at!(u64_at, u64);
 number_at!(i64_at, i64);
 number_at!(f64_at, f64);
 

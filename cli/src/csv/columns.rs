@@ -1,4 +1,5 @@
-//! The columns of a CSV file that has a header. The message for a mistake gives its line and, if there is one, its column.
+//! The columns of a CSV file that has a header. The message for a mistake gives its line and, if there is
+//! one, its column.
 
 use super::Row;
 use crate::mistakes::Mistakes;
@@ -8,8 +9,9 @@ pub struct Columns {
 }
 
 impl Columns {
-    /// Returns the columns in the order of the header, and records its mistakes. A header may have the columns in `known`, in any
-    /// order, and must have the first `needed` of them. `what` says in the messages what a row holds.
+    /// Returns the columns in the order of the header, and records its mistakes. A header may have the
+    /// columns in `known`, in any order, and must have the first `needed` of them. `what` says in the
+    /// messages what a row holds.
     pub fn read(
         header: &Row,
         known: &[&'static str],
@@ -40,6 +42,10 @@ impl Columns {
             mistakes.list.push(format!("line {line}: has {has} field{s}, but the header has {header}"));
         }
         has == header
+    }
+
+    pub fn has(&self, name: &str) -> bool {
+        self.names.contains(&name)
     }
 
     /// Returns the field of a row in a column, or `None` if the file does not have the column.

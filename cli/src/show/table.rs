@@ -10,6 +10,8 @@ use crate::words;
 
 pub const HEAD: &str = "       job   rev  transfer  orbit      x of chosen end  end    width k    width x  \
     km/s          x            y            z         size\n";
+/// The position in `HEAD` at which the columns of a transfer begin.
+const BEFORE_TRANSFER: usize = 18;
 
 pub fn record(record: &Record, asked: &Asked) -> String {
     let mut lines = Vec::new();
@@ -26,7 +28,7 @@ pub fn record(record: &Record, asked: &Asked) -> String {
         Outcome::Refused(number) => lines.extend(refused(*number)),
         Outcome::Answered(entries) => {
             for (i, entry) in entries.iter().enumerate() {
-                lines.extend(entry_lines(entry, &format!("{} of {}", i + 1, entries.len())));
+                lines.extend(entry_lines(entry, i + 1, entries.len()));
                 if let Asked::Known(question) = asked {
                     lines.push(changes_line(changes(question, entry)));
                 }
@@ -36,7 +38,14 @@ pub fn record(record: &Record, asked: &Asked) -> String {
     row(record.job, record.revision, &lines)
 }
 
-fn entry_lines(entry: &Entry, which: &str) -> [String; 2] {
+/// Returns the transfers of an answer as lines without job and revision. The first line is the header.
+pub fn transfers(entries: &[Entry]) -> Vec<String> {
+    let lines = entries.iter().enumerate().flat_map(|(i, entry)| entry_lines(entry, i + 1, entries.len()));
+    [HEAD[BEFORE_TRANSFER..].trim_end().into()].into_iter().chain(lines).collect()
+}
+
+fn entry_lines(entry: &Entry, i: usize, count: usize) -> [String; 2] {
+    let which = format!("{i} of {count}");
     let (x, width) = (x_of(entry.chosen()), entry.width());
     let first = format!(
         "{which:<8}  {:<9}  {x:>15.12}  {:<5}  {width:>7}  {:>9.3e}",

@@ -1,0 +1,115 @@
+//! `opm`: writes the departure state of transfers as orbit messages (CCSDS orbit parameter messages), or
+//! reads one back. The proved library writes and reads each orbit message. If anything is wrong, the command
+//! writes nothing.
+
+mod clock;
+mod folder;
+mod list;
+mod message;
+mod outcomes;
+mod questions;
+mod reading;
+mod request;
+mod sources;
+mod texts;
+
+use crate::fields;
+use crate::mistakes::Mistakes;
+use crate::options::Options;
+use crate::stop::Stop;
+use crate::streams::{Input, Output};
+use request::{Place, Request};
+use sources::Sources;
+use texts::Text;
+
+const CHOICE: [&str; 3] = ["--job", "--revision", "--entry"];
+const FILES: [&str; 4] = ["--questions", "--list", "--to", "-o"];
+
+pub fn run(words: &[String]) -> Result<u8, Stop> {
+    let valued = [&texts::OPTIONS[..], &CHOICE, &FILES].concat();
+    let options = Options::read(words, &["--read", "--json"], &valued)?;
+    if options.has("--read") {
+        apart(&options, "--read", &valued)?;
+        return reading::run(&options);
+    }
+    if options.has("--json") {
+        return Stop::said("--json goes with --read alone");
+    }
+    if options.has("--list") {
+        apart(&options, "--list", &[&CHOICE[..], &["-o"]].concat())?;
+        return listed(&options);
+    }
+    if options.has("--to") {
+        return Stop::said("--to goes with --list alone");
+    }
+    single(&options)
+}
+
+/// Fails if an option in `others` is given, since none of them goes together with `option`.
+fn apart(options: &Options, option: &str, others: &[&str]) -> Result<(), Stop> {
+    match others.iter().find(|other| options.has(other)) {
+        Some(other) => Stop::said(format!("{other} and {option} do not go together")),
+        None => Ok(()),
+    }
+}
+
+/// Writes the orbit message that the options ask for.
+fn single(options: &Options) -> Result<u8, Stop> {
+    let given = texts::given(options)?;
+    let mut mistakes = Mistakes::default();
+    let needed = |name: &str, there: bool| (!there).then(|| format!("{name}: is missing"));
+    mistakes.list.extend(needed("--questions", options.has("--questions")));
+    let texts = texts::OPTIONS.iter().zip(&given);
+    mistakes.list.extend(texts.filter_map(|(name, text)| needed(name, text.is_some())));
+    let request = request(options, given, &mut mistakes);
+    mistakes.stop()?;
+    let mut inputs = sources::open(options)?;
+    match message::make(&request, &Sources::read(&mut inputs)?) {
+        Err(list) => Mistakes { list }.stop()?,
+        Ok(message) => {
+            let mut output = Output::open(options.value("-o"), &inputs)?;
+            output.put(&message.bytes)?;
+            output.flush()?;
+        }
+    }
+    Ok(0)
+}
+
+/// Returns the request of the options. A text that is missing is empty, and a mistake is recorded for it
+/// elsewhere.
+fn request(options: &Options, given: [Option<Text>; 8], mistakes: &mut Mistakes) -> Request {
+    let mut whole = |name: &str, read: fn(&str) -> Result<u32, String>| {
+        options.value(name).map(|text| mistakes.take(name, read(text)))
+    };
+    Request {
+        place: Place::Options,
+        job: whole("--job", fields::job),
+        revision: whole("--revision", fields::revision),
+        entry: whole("--entry", fields::entry),
+        texts: given.map(Option::unwrap_or_default),
+    }
+}
+
+/// Writes the orbit messages of a list. It makes all of them before it writes the first.
+fn listed(options: &Options) -> Result<u8, Stop> {
+    let mut mistakes = Mistakes::default();
+    let missing = ["--questions", "--to"].into_iter().filter(|name| !options.has(name));
+    mistakes.list.extend(missing.map(|name| format!("{name}: is missing")));
+    mistakes.stop()?;
+    let folder = options.value("--to").unwrap_or_default();
+    let mut inputs = sources::open(options)?;
+    let mut list = Input::open(options.value("--list"))?;
+    let requests = list::requests(&mut list, &texts::given(options)?, &mut mistakes)?;
+    let sources = Sources::read(&mut inputs)?;
+    let mut files = folder::Files::new();
+    for request in &requests {
+        match message::make(request, &sources) {
+            Err(words) => mistakes.add(words),
+            Ok(message) => folder::add(&mut files, folder, request.place, message, &mut mistakes),
+        }
+    }
+    let present = folder::leave_out_present(&mut files, &mut mistakes);
+    mistakes.stop_with_all()?;
+    folder::write(folder, &files, present)?;
+    Ok(0)
+}

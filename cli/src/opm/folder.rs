@@ -1,0 +1,74 @@
+//! Writes orbit messages as the files of a folder: either all of them or none.
+
+use super::message::OrbitMessage;
+use super::request::Place;
+use crate::mistakes::Mistakes;
+use crate::stop::{tell, Stop};
+use std::collections::BTreeMap;
+use std::fs::{self, OpenOptions};
+use std::io::{self, Write};
+use std::path::{Path, PathBuf};
+
+/// The files that are to be written, each with its bytes and the place in the list that asks for it.
+pub type Files = BTreeMap<PathBuf, (Place, Vec<u8>)>;
+
+/// Adds an orbit message under its name in the folder. Equal messages are one file. If an earlier line has a
+/// different one of that name, records a mistake.
+pub fn add(files: &mut Files, folder: &str, place: Place, message: OrbitMessage, mistakes: &mut Mistakes) {
+    let OrbitMessage { job, revision, entry, bytes } = message;
+    let path = Path::new(folder).join(format!("{job}-{revision}-{entry}.opm"));
+    match files.get(&path) {
+        None => {
+            files.insert(path, (place, bytes));
+        }
+        Some((_, same)) if *same == bytes => {}
+        Some(_) => {
+            let words = format!("asks for {}, as an earlier line does, but with other texts", path.display());
+            mistakes.list.push(place.say(words));
+        }
+    }
+}
+
+/// Removes the files that are there already with the same bytes, and returns how many they are. Records a
+/// mistake for each file that is there with other bytes.
+pub fn leave_out_present(files: &mut Files, mistakes: &mut Mistakes) -> usize {
+    let all = files.len();
+    files.retain(|path, (place, bytes)| match fs::read(path) {
+        Ok(present) if present == *bytes => false,
+        Err(e) if e.kind() == io::ErrorKind::NotFound => true,
+        found => {
+            let words =
+                found.map_or_else(|e| e.to_string(), |_| "it is there already, with other bytes".into());
+            mistakes.list.push(place.say(format!("cannot write {}: {words}", path.display())));
+            true
+        }
+    });
+    all - files.len()
+}
+
+/// Writes the files, and makes the folder if it is missing. If a write fails, removes the files written
+/// before it.
+pub fn write(folder: &str, files: &Files, present: usize) -> Result<(), Stop> {
+    fs::create_dir_all(folder).map_err(|e| Stop::Said(format!("cannot make the folder {folder}: {e}")))?;
+    let mut written = Vec::new();
+    for (path, (_, bytes)) in files {
+        let created = OpenOptions::new().write(true).create_new(true).open(path);
+        let failed = created.and_then(|mut file| {
+            written.push(path);
+            file.write_all(bytes)
+        });
+        if let Err(e) = failed {
+            let left = written.iter().filter(|path| fs::remove_file(path).is_err()).count();
+            let rest = if left == 0 {
+                "no orbit message is written".into()
+            } else {
+                format!("{left} files are left")
+            };
+            return Stop::said(format!("cannot write {}: {e}; {rest}", path.display()));
+        }
+    }
+    let s = if files.len() == 1 { "" } else { "s" };
+    let there = if present == 0 { String::new() } else { format!(", {present} were there already") };
+    tell(&format!("{folder}: {} orbit message{s} written{there}", files.len()));
+    Ok(())
+}

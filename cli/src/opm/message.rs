@@ -1,0 +1,87 @@
+//! Makes an orbit message. The proved library writes it or refuses it; this file finds the record and the
+//! question, and puts each refusal into words.
+
+use super::outcomes::{of, Key};
+use super::request::Request;
+use super::sources::Sources;
+use super::texts;
+use crate::proved::orbit_message;
+use crate::refusal;
+use crate::show::table;
+use crate::wire::{Entry, Outcome, Question, Record};
+use crate::words::number;
+
+/// The numbers of the refusals, B1, B5, B6 and B7.
+const MALFORMED: u64 = 1;
+const TEXT: u64 = 5;
+const NO_ENTRY: u64 = 6;
+const NOT_WRITABLE: u64 = 7;
+
+/// The size that a number of an orbit message does not reach.
+const LIMIT: f64 = 1e7;
+
+pub struct OrbitMessage {
+    pub job: u32,
+    pub revision: u32,
+    pub entry: u32,
+    pub bytes: Vec<u8>,
+}
+
+/// Returns the orbit message that is asked for, or the sentences that say why there is none.
+pub fn make(request: &Request, sources: &Sources) -> Result<OrbitMessage, Vec<String>> {
+    let say = |words| vec![request.place.say(words)];
+    let bytes = sources.outcomes.chosen(request).map_err(say)?;
+    let record = Record::read(bytes).map_err(|(_, words)| say(words))?;
+    let key = (record.job, record.revision);
+    let entries = match &record.outcome {
+        Outcome::Refused(number) => return Err(say(refused(key, *number))),
+        Outcome::Answered(entries) => entries,
+    };
+    let question = sources.questions.of(key).map_err(say)?;
+    let entry = match (request.entry, &entries[..]) {
+        (Some(entry), _) => entry,
+        (None, [_]) => 1,
+        (None, _) => return Err(say(several(request, key, entries))),
+    };
+    match orbit_message(bytes, entry.into(), question.r1, &texts::lines(&request.texts)) {
+        Ok(bytes) => Ok(OrbitMessage { job: key.0, revision: key.1, entry, bytes }),
+        Err(TEXT) => Err(texts::why(&request.texts)),
+        Err(NO_ENTRY) => Err(vec![no_entry(request, key, entry, entries)]),
+        Err(NOT_WRITABLE) => Err(say(not_writable(key, question, &entries[entry as usize - 1]))),
+        Err(MALFORMED) => Err(say(format!("the record of {} is malformed (B1)", of(key)))),
+        Err(number) => Err(say(format!("the orbit message of {} is refused with B{number}", of(key)))),
+    }
+}
+
+fn refused(key: Key, number: u16) -> String {
+    let words = refusal::words(number);
+    format!("{} is refused, so there is no transfer to write. Refusal {number}: {words}", of(key))
+}
+
+/// Returns a sentence that says that an answer has several transfers, and lists them as `show` does.
+fn several(request: &Request, key: Key, entries: &[Entry]) -> String {
+    let (count, how) = (entries.len(), request.place.choose("entry"));
+    let lines: String = table::transfers(entries).iter().map(|line| format!("\n  {line}")).collect();
+    format!("{} has {count} transfers, and an orbit message is of one: {how}, 1 to {count}{lines}", of(key))
+}
+
+fn no_entry(request: &Request, key: Key, entry: u32, entries: &[Entry]) -> String {
+    let s = if entries.len() == 1 { "" } else { "s" };
+    let answer = format!("the answer of {} has {} transfer{s}, counted from 1", of(key), entries.len());
+    format!("{}: there is no entry {entry}: {answer} (B6)", request.place.of("entry"))
+}
+
+/// Returns a sentence about the first number of the state that cannot be written. If none is found, the
+/// sentence is about the state.
+fn not_writable(key: Key, question: &Question, entry: &Entry) -> String {
+    let names = ["x of r1", "y of r1", "z of r1", "x of v1", "y of v1", "z of v1"];
+    let mut numbers = names.into_iter().zip(question.r1.iter().chain(&entry.v1));
+    let what = match numbers.find(|(_, value)| value.is_nan() || value.abs() >= LIMIT) {
+        None => "a number of its departure state".into(),
+        Some((name, value)) => format!("{name} is {}, which", number(*value)),
+    };
+    format!(
+        "{}: {what} is not finite or not below 10^7 in size, so no orbit message can hold it (B7)",
+        of(key)
+    )
+}
