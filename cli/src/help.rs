@@ -9,7 +9,7 @@ lambert-cli: write, solve and read Lambert questions with the proved solver
   lambert-cli plot ...       draws one question: the time over x, and the brackets
   lambert-cli board ...      prints the outcome of each job's highest revision as a table
   lambert-cli check ...      tells whether a file of records or questions is well-formed
-  lambert-cli opm ...        writes transfers as orbit messages for stations, or reads one back
+  lambert-cli opm ...        writes transfers as CCSDS orbit messages, or reads one back
   lambert-cli COMMAND --help
 
 If a file is named '-' or not named, it is standard input or standard output. Messages go to
