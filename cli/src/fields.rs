@@ -1,5 +1,5 @@
-//! Reads the fields of a question, and of a line that asks for an orbit message, from text. These functions refuse only what a field
-//! cannot hold. The proved libraries check the rest.
+//! Reads the fields of a question, and of a request for an orbit message, from text. These functions refuse
+//! only what a field cannot hold. The proved libraries check the rest.
 
 /// The bodies that `--mu` knows by name: the gravitational parameter in km³/s², and the source of the value. The value is that of
 /// the body alone, without its moons.

@@ -1,5 +1,5 @@
-//! The command for people around the proved solver, the proved board and the proved orbit messages. It does not compute transfers,
-//! change boards or write orbit messages itself: the functions of `proved` do all three.
+//! The command for people around the proved solver, the proved board and the proved orbit messages. It does
+//! not compute transfers, change boards or write orbit messages itself: the functions of `proved` do that.
 #![deny(unsafe_code)]
 
 mod ask;

@@ -1,7 +1,7 @@
 //! Makes an orbit message. The proved library writes it or refuses it; this file finds the record and the
 //! question, and puts each refusal into words.
 
-use super::outcomes::{of, Key};
+use super::outcomes::{words_of, Key};
 use super::request::Request;
 use super::sources::Sources;
 use super::texts;
@@ -37,7 +37,7 @@ pub fn make(request: &Request, sources: &Sources) -> Result<OrbitMessage, Vec<St
         Outcome::Refused(number) => return Err(say(refused(key, *number))),
         Outcome::Answered(entries) => entries,
     };
-    let question = sources.questions.of(key).map_err(say)?;
+    let question = sources.questions.find(key).map_err(say)?;
     let entry = match (request.entry, &entries[..]) {
         (Some(entry), _) => entry,
         (None, [_]) => 1,
@@ -48,26 +48,29 @@ pub fn make(request: &Request, sources: &Sources) -> Result<OrbitMessage, Vec<St
         Err(TEXT) => Err(texts::why(&request.texts)),
         Err(NO_ENTRY) => Err(vec![no_entry(request, key, entry, entries)]),
         Err(NOT_WRITABLE) => Err(say(not_writable(key, question, &entries[entry as usize - 1]))),
-        Err(MALFORMED) => Err(say(format!("the record of {} is malformed (B1)", of(key)))),
-        Err(number) => Err(say(format!("the orbit message of {} is refused with B{number}", of(key)))),
+        Err(MALFORMED) => Err(say(format!("the record of {} is malformed (B1)", words_of(key)))),
+        Err(number) => Err(say(format!("the orbit message of {} is refused with B{number}", words_of(key)))),
     }
 }
 
 fn refused(key: Key, number: u16) -> String {
     let words = refusal::words(number);
-    format!("{} is refused, so there is no transfer to write. Refusal {number}: {words}", of(key))
+    format!("{} is refused, so there is no transfer to write. Refusal {number}: {words}", words_of(key))
 }
 
 /// Returns a sentence that says that an answer has several transfers, and lists them as `show` does.
 fn several(request: &Request, key: Key, entries: &[Entry]) -> String {
     let (count, how) = (entries.len(), request.place.choose("entry"));
     let lines: String = table::transfers(entries).iter().map(|line| format!("\n  {line}")).collect();
-    format!("{} has {count} transfers, and an orbit message is of one: {how}, 1 to {count}{lines}", of(key))
+    format!(
+        "{} has {count} transfers, and an orbit message is of one: {how}, 1 to {count}{lines}",
+        words_of(key)
+    )
 }
 
 fn no_entry(request: &Request, key: Key, entry: u32, entries: &[Entry]) -> String {
     let s = if entries.len() == 1 { "" } else { "s" };
-    let answer = format!("the answer of {} has {} transfer{s}, counted from 1", of(key), entries.len());
+    let answer = format!("the answer of {} has {} transfer{s}, counted from 1", words_of(key), entries.len());
     format!("{}: there is no entry {entry}: {answer} (B6)", request.place.of("entry"))
 }
 
@@ -82,6 +85,6 @@ fn not_writable(key: Key, question: &Question, entry: &Entry) -> String {
     };
     format!(
         "{}: {what} is not finite or not below 10^7 in size, so no orbit message can hold it (B7)",
-        of(key)
+        words_of(key)
     )
 }

@@ -57,7 +57,7 @@ impl Outcomes {
             [(_, (bytes, false))] => Ok(bytes),
             [(key, (_, true))] => Err(format!(
                 "{name}: has different records of {}, which is a conflict: nothing says which of them counts",
-                of(*key)
+                words_of(*key)
             )),
             _ => {
                 let keys: Vec<Key> = found.iter().map(|(key, _)| **key).collect();
@@ -68,14 +68,14 @@ impl Outcomes {
 }
 
 /// Returns the words for a job and a revision.
-pub fn of((job, revision): Key) -> String {
+pub fn words_of((job, revision): Key) -> String {
     format!("job {job}, revision {revision}")
 }
 
 /// Returns the words for what a request chooses.
 fn wanted(request: &Request) -> String {
     match (request.job, request.revision) {
-        (Some(job), Some(revision)) => of((job, revision)),
+        (Some(job), Some(revision)) => words_of((job, revision)),
         (Some(job), None) => format!("job {job}"),
         (None, Some(revision)) => format!("revision {revision}"),
         (None, None) => "any job".into(),
@@ -88,7 +88,7 @@ fn several(request: &Request, keys: &[Key]) -> String {
         None => ("several jobs or revisions".into(), "choose with --job and --revision".into()),
         Some(job) => (format!("several revisions of job {job}"), request.place.choose("revision")),
     };
-    let listed = keys.iter().take(LISTED).map(|key| format!("\n  {}", of(*key)));
+    let listed = keys.iter().take(LISTED).map(|key| format!("\n  {}", words_of(*key)));
     let mut words = format!("has records of {what}: {how}") + &listed.collect::<String>();
     if keys.len() > LISTED {
         words += &format!("\n  and {} more", keys.len() - LISTED);

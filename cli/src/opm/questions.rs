@@ -1,7 +1,7 @@
 //! The questions of an input by job and revision, in any order. Equal questions of a job and revision count
 //! as one.
 
-use super::outcomes::{of, Key};
+use super::outcomes::{words_of, Key};
 use crate::stop::Stop;
 use crate::streams::Input;
 use crate::wire::{Question, Slots};
@@ -36,9 +36,9 @@ impl Questions {
     }
 
     /// Returns the only question of a job and revision, or a sentence that says why there is none.
-    pub fn of(&self, key: Key) -> Result<&Question, String> {
+    pub fn find(&self, key: Key) -> Result<&Question, String> {
         let Questions { name, slots, others, by_key } = self;
-        let which = of(key);
+        let which = words_of(key);
         match by_key.get(&key) {
             Some((question, false)) => Ok(question),
             Some(_) => {

@@ -5,7 +5,7 @@ use super::clock;
 use crate::options::Options;
 use crate::stop::Stop;
 
-/// The options and the columns of the texts, in the order of the message.
+/// The options and the columns of the texts, in the order of the orbit message.
 pub const OPTIONS: [&str; 8] = [
     "--creation-date",
     "--originator",
@@ -53,8 +53,8 @@ pub fn lines(texts: &[Text; 8]) -> Vec<u8> {
     texts.iter().flat_map(|text| [text.value.as_bytes(), b"\n"].concat()).collect()
 }
 
-/// Returns a sentence for each text that is the reason of B5. Which texts are legal is decided by the proved
-/// library. If none of them is found to be wrong here, the sentence says that.
+/// Returns a sentence for each text that is the reason of B5. The proved library alone decides which texts
+/// are legal. If no fault is found here, one sentence says that a text is wrong without naming it.
 pub fn why(texts: &[Text; 8]) -> Vec<String> {
     let wrong = |text: &Text| Some(format!("{}: {} (B5)", text.place, fault(&text.value)?));
     let found: Vec<String> = texts.iter().filter_map(wrong).collect();
