@@ -116,17 +116,22 @@ lambert-cli opm --questions FILE --list LIST.csv --to FOLDER TEXTS [RECORDS]
 lambert-cli opm --read [FILE] [--json]
 
 Writes the departure state of a transfer, r1 and v1, as an orbit message: a CCSDS orbit parameter
-message with km and km/s, nine decimals and no units. If anything is wrong, nothing is written.
+message. Numbers are in km and km/s and have nine decimals; no unit is written. If a request or an
+input has a fault, nothing is written. If a write fails, opm removes the files of the list that it
+has written, or says how many it could not remove.
 
-  --questions FILE    the questions, in any order; r1 is that of the same job and revision
+  --questions FILE    the questions, in any order; r1 is taken from the question with the job and
+                      revision of the record
   --job, --revision   the record to take, if there is more than one
   --entry N           the transfer to take, counted from 1, if the answer has more than one
   TEXTS               --originator, --object-name, --object-id, --center-name, --ref-frame,
                       --time-system and --epoch, each with a text of 1 to 60 printable ASCII
-                      characters, and optionally --creation-date (default: now in UTC)
+                      characters that does not begin or end with a blank; and optionally
+                      --creation-date (default: now in UTC). With --list, an option is needed only
+                      if the list does not have that text
   --list LIST.csv     a header and a line for each orbit message, with the column job and optionally
-                      revision, entry and any of the texts (object_name, epoch, ...), which go
-                      before the options
+                      revision, entry and any of the texts (object_name, epoch, ...); a text in the
+                      list is used instead of the option's
   --to FOLDER         the folder for the orbit messages of the list, JOB-REVISION-ENTRY.opm each
   --read              prints the six numbers of an orbit message, as exact decimals
   --json              with --read: prints them as one JSON object

@@ -1,6 +1,6 @@
 //! `opm`: writes the departure state of transfers as orbit messages (CCSDS orbit parameter messages), or
-//! reads one back. The proved library writes and reads each orbit message. If anything is wrong, the command
-//! writes nothing.
+//! reads one back. The proved library writes and reads each orbit message. If a request or an input has a
+//! fault, the command writes nothing.
 
 mod clock;
 mod folder;

@@ -30,11 +30,11 @@ pub const NUMBER_KEYS: [&str; 6] = ["X", "Y", "Z", "X_DOT", "Y_DOT", "Z_DOT"];
 /// What stands between a key and its value.
 pub const BETWEEN: &str = " = ";
 
-/// The number of lines of a message.
+/// The number of lines of an orbit message.
 pub const LINES: usize = 1 + TEXT_KEYS.len() + NUMBER_KEYS.len();
 
-/// The numbers of the writer's refusals B1 and B5 to B8, in the order of the checks. The reader gives B10,
-/// and B8 if there is no room for the numbers of a right message.
+/// The numbers of the writer's refusals B1 and B5 to B8, in the order of the checks. The reader gives B10. If
+/// the bytes are an orbit message, but the buffer is too short for its numbers, it gives the number 8.
 pub const BAD_ANSWER: u8 = 1;
 pub const BAD_TEXT: u8 = 5;
 pub const NO_ENTRY: u8 = 6;

@@ -1,4 +1,4 @@
-//! The date and time of now in UTC, for an orbit message whose creation date is not given.
+//! The current date and time in UTC, for an orbit message whose creation date is not given.
 
 use crate::stop::Stop;
 use std::time::{SystemTime, UNIX_EPOCH};
@@ -25,7 +25,7 @@ fn date_and_time(seconds: u64) -> String {
 }
 
 /// Returns the year, month and day of a number of days after 1 January 1970. It counts years from 1 March, so
-/// that the day of a leap year is the last one of its year.
+/// that 29 February is the last day of its year.
 fn date(days: u64) -> (u64, u64, u64) {
     let days = days + DAYS_TO_1970;
     let (cycle, day) = (days / DAYS_OF_400_YEARS, days % DAYS_OF_400_YEARS);

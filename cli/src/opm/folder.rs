@@ -1,4 +1,5 @@
-//! Writes orbit messages as the files of a folder: either all of them or none.
+//! Writes orbit messages as the files of a folder. If a write fails, removes the files that it has written,
+//! or says how many it could not remove.
 
 use super::message::OrbitMessage;
 use super::request::Place;
@@ -12,8 +13,8 @@ use std::path::{Path, PathBuf};
 /// The files that are to be written, each with its bytes and the place in the list that asks for it.
 pub type Files = BTreeMap<PathBuf, (Place, Vec<u8>)>;
 
-/// Adds an orbit message under its name in the folder. Equal messages are one file. If an earlier line has a
-/// different one of that name, records a mistake.
+/// Adds an orbit message under its name in the folder. Equal orbit messages are one file. If an earlier line
+/// has a different one of that name, records a mistake.
 pub fn add(files: &mut Files, folder: &str, place: Place, message: OrbitMessage, mistakes: &mut Mistakes) {
     let OrbitMessage { job, revision, entry, bytes } = message;
     let path = Path::new(folder).join(format!("{job}-{revision}-{entry}.opm"));
@@ -29,8 +30,9 @@ pub fn add(files: &mut Files, folder: &str, place: Place, message: OrbitMessage,
     }
 }
 
-/// Removes the files that are there already with the same bytes, and returns how many they are. Records a
-/// mistake for each file that is there with other bytes.
+/// Takes out of `files` those that the folder already has with the same bytes, and returns how many they are.
+/// Nothing in the folder is changed. Records a mistake for each file that the folder has with other bytes, or
+/// that cannot be read.
 pub fn leave_out_present(files: &mut Files, mistakes: &mut Mistakes) -> usize {
     let all = files.len();
     files.retain(|path, (place, bytes)| match fs::read(path) {
@@ -46,8 +48,8 @@ pub fn leave_out_present(files: &mut Files, mistakes: &mut Mistakes) -> usize {
     all - files.len()
 }
 
-/// Writes the files, and makes the folder if it is missing. If a write fails, removes the files written
-/// before it.
+/// Writes the files, and makes the folder if it is missing. If a write fails, removes the unfinished file and
+/// the files written before it.
 pub fn write(folder: &str, files: &Files, present: usize) -> Result<(), Stop> {
     fs::create_dir_all(folder).map_err(|e| Stop::Said(format!("cannot make the folder {folder}: {e}")))?;
     let mut written = Vec::new();
@@ -59,16 +61,20 @@ pub fn write(folder: &str, files: &Files, present: usize) -> Result<(), Stop> {
         });
         if let Err(e) = failed {
             let left = written.iter().filter(|path| fs::remove_file(path).is_err()).count();
-            let rest = if left == 0 {
-                "no orbit message is written".into()
-            } else {
-                format!("{left} files are left")
+            let rest = match left {
+                0 => "no orbit message is written".into(),
+                1 => "1 file is left".into(),
+                _ => format!("{left} files are left"),
             };
             return Stop::said(format!("cannot write {}: {e}; {rest}", path.display()));
         }
     }
     let s = if files.len() == 1 { "" } else { "s" };
-    let there = if present == 0 { String::new() } else { format!(", {present} were there already") };
+    let there = match present {
+        0 => String::new(),
+        1 => ", 1 was there already".into(),
+        _ => format!(", {present} were there already"),
+    };
     tell(&format!("{folder}: {} orbit message{s} written{there}", files.len()));
     Ok(())
 }

@@ -13,8 +13,7 @@ const COLUMNS: [&str; 3] = ["job", "revision", "entry"];
 const NEEDED: usize = 1;
 
 /// Returns a request for each line of the list, and records the mistakes of the lines. Fails if the header
-/// has a mistake. A text in the list goes before the one that is given by its option, and an empty field
-/// counts as not given.
+/// has a mistake. A text in the list is used instead of the option's, and an empty field counts as not given.
 pub fn requests(
     input: &mut Input,
     given: &[Option<Text>; 8],

@@ -55,7 +55,8 @@ pub fn make(request: &Request, sources: &Sources) -> Result<OrbitMessage, Vec<St
 
 fn refused(key: Key, number: u16) -> String {
     let words = refusal::words(number);
-    format!("{} is refused, so there is no transfer to write. Refusal {number}: {words}", words_of(key))
+    let record = format!("the record of {} is a refusal, so it has no entry to write", words_of(key));
+    format!("{record}. Refusal {number}: {words}")
 }
 
 /// Returns a sentence that says that an answer has several transfers, and lists them as `show` does.
@@ -63,7 +64,7 @@ fn several(request: &Request, key: Key, entries: &[Entry]) -> String {
     let (count, how) = (entries.len(), request.place.choose("entry"));
     let lines: String = table::transfers(entries).iter().map(|line| format!("\n  {line}")).collect();
     format!(
-        "{} has {count} transfers, and an orbit message is of one: {how}, 1 to {count}{lines}",
+        "{} has {count} transfers, and an orbit message has one: {how}, 1 to {count}{lines}",
         words_of(key)
     )
 }

@@ -29,7 +29,7 @@ impl Questions {
             };
             let key = (question.job, question.revision);
             let (first, conflict) = by_key.entry(key).or_insert_with(|| (question, false));
-            // The bytes are compared, since a number in them need not equal itself.
+            // The bytes are compared, since a NaN is not equal to itself.
             *conflict |= first.bytes() != slot;
         }
         Ok(Questions { name: name.clone(), slots: slots.number, others, by_key })
@@ -45,8 +45,8 @@ impl Questions {
                 Err(format!("{name}: has different questions of {which}: nothing says which was answered"))
             }
             None => {
-                let rest = if *others == 0 { "" } else { &format!(", and {others} hold no question at all") };
-                Err(format!("{name}: none of the {slots} slots has a question of {which}{rest}"))
+                let rest = if *others == 0 { "" } else { &format!(", of which {others} hold no question") };
+                Err(format!("{name}: has no question of {which} (slots: {slots}{rest})"))
             }
         }
     }

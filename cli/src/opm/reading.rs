@@ -6,7 +6,7 @@ use crate::stop::Stop;
 use crate::streams::{Input, Output};
 use std::io::Read;
 
-/// The keywords of the numbers, with their units.
+/// The keys of the numbers, with their units.
 const NUMBERS: [(&str, &str); 6] =
     [("X", "km"), ("Y", "km"), ("Z", "km"), ("X_DOT", "km/s"), ("Y_DOT", "km/s"), ("Z_DOT", "km/s")];
 
@@ -36,8 +36,8 @@ pub fn run(options: &Options) -> Result<u8, Stop> {
     Ok(0)
 }
 
-/// Reads the numbers of an orbit message. An input that is longer than every orbit message is read only as
-/// far as that shows.
+/// Reads the numbers of an orbit message. Reads at most one byte more than the longest orbit message has. A
+/// longer input is refused by its length.
 fn state(input: &mut Input) -> Result<[Decimal; 6], Stop> {
     let Input { name, bytes, .. } = input;
     let mut message = Vec::new();

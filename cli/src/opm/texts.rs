@@ -1,5 +1,5 @@
 //! The eight texts of an orbit message. Each comes from the option or from the column that is named like its
-//! keyword.
+//! key.
 
 use super::clock;
 use crate::options::Options;
@@ -37,7 +37,7 @@ pub struct Text {
     pub value: String,
 }
 
-/// Returns the texts that the options give. If there is no creation date, it is the current one.
+/// Returns the texts that the options give. If there is no creation date, it is the current time in UTC.
 pub fn given(options: &Options) -> Result<[Option<Text>; 8], Stop> {
     let text =
         |option: &str| options.value(option).map(|value| Text { place: option.into(), value: value.into() });
@@ -93,7 +93,7 @@ mod tests {
         std::array::from_fn(|i| text(if i == 7 { value } else { "a" }))
     }
 
-    /// The reasons agree with the library: a text has a fault exactly if the library gives B5.
+    /// For these texts, a fault is found exactly if the library gives B5.
     #[test]
     fn each_reason_is_one_of_the_library() {
         let long = "x".repeat(61);

@@ -1,5 +1,5 @@
-//! Reads a message. Only the exact form that the writer uses is accepted. The numbers need not be ones that a
-//! float rounds to.
+//! Reads an orbit message. Only the exact form that the writer uses is accepted. The numbers need not be ones
+//! that a float rounds to.
 
 use super::lines::lines;
 use super::text::is_text;
@@ -14,8 +14,8 @@ const DECIMALS: usize = 9;
 /// The size of the six numbers as bytes: sign, whole part and billionths of each, u64 little-endian.
 pub const STATE_SIZE: usize = 3 * 8 * NUMBER_KEYS.len();
 
-/// Returns the six numbers of a message: position, then velocity. Returns None if the bytes aren't a message
-/// in the exact form.
+/// Returns the six numbers of an orbit message: position, then velocity. Returns None if the bytes aren't an
+/// orbit message in the exact form.
 pub fn read(message: &[u8]) -> Option<[Decimal; NUMBER_KEYS.len()]> {
     let [version, rest @ ..] = &lines::<LINES>(message)?;
     let (texts, numbers) = rest.split_at(TEXT_KEYS.len());
@@ -27,8 +27,8 @@ pub fn read(message: &[u8]) -> Option<[Decimal; NUMBER_KEYS.len()]> {
     read?.try_into().ok().filter(|_| legal)
 }
 
-/// Reads a message and writes the bytes of its six numbers to the beginning of `state`. A refusal is returned
-/// as the number after its B, and leaves `state` unchanged.
+/// Reads an orbit message and writes the bytes of its six numbers to the beginning of `state`. A refusal is
+/// returned as the number after its B, and leaves `state` unchanged.
 pub fn read_state(message: &[u8], state: &mut [u8]) -> Result<(), u8> {
     let numbers = read(message).ok_or(NOT_A_MESSAGE)?;
     let place = state.get_mut(..STATE_SIZE).ok_or(SHORT_BUFFER)?;
@@ -47,7 +47,7 @@ fn value<'a>(line: &'a [u8], key: &str) -> Option<&'a [u8]> {
     line.strip_prefix(key.as_bytes())?.strip_prefix(BETWEEN.as_bytes())
 }
 
-/// Reads a number: at most a minus sign, the whole part, a point and nine digits.
+/// Reads a number: a minus sign or nothing, then the whole part, a point and nine digits.
 fn number(value: &[u8]) -> Option<Decimal> {
     let (negative, size) = match value.strip_prefix(b"-") {
         Some(size) => (true, size),

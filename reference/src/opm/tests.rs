@@ -1,4 +1,4 @@
-//! A whole message, and reading what was written.
+//! A whole orbit message, and reading what was written.
 
 use super::*;
 use crate::record::Record;
@@ -33,7 +33,7 @@ pub fn answer(job: u32, v1: &[Vector]) -> Vec<u8> {
     Record { job, revision: 2, outcome: Ok(v1.iter().map(|&v1| entry(v1)).collect()) }.write()
 }
 
-/// Returns the result of the writer and the buffer after it. All bytes of the buffer are B7 before.
+/// Returns the result of the writer and the buffer after it. Before the call every byte is 0xB7.
 pub fn written(
     answer: &[u8],
     entry: u64,
@@ -45,7 +45,7 @@ pub fn written(
     (write(answer, entry, r1, texts, &mut out), out)
 }
 
-/// Returns a right message.
+/// Returns an orbit message that the reader accepts.
 pub fn message() -> Vec<u8> {
     MESSAGE.as_bytes().to_vec()
 }

@@ -1,4 +1,4 @@
-//! The rule for the eight texts of a message.
+//! The rule for the eight texts of an orbit message.
 
 pub const LONGEST_TEXT: usize = 60;
 

@@ -1,4 +1,4 @@
-//! Writes the departure state of one entry of an answer as a message.
+//! Writes the departure state of one entry of an answer as an orbit message.
 
 use super::lines::lines;
 use super::text::is_text;
@@ -9,9 +9,9 @@ use crate::record::Record;
 use crate::solve::Entry;
 use crate::wire::Vector;
 
-/// Writes the message for an entry, counted from 1, to the beginning of `out` and returns its size. The eight
-/// texts stand in `texts` as lines, each ended by LF. A refusal is returned as the number after its B, and
-/// leaves `out` unchanged.
+/// Writes the orbit message of an entry, counted from 1, to the beginning of `out` and returns its size. The
+/// eight texts stand in `texts` as lines, each ended by LF. A refusal is returned as the number after its B,
+/// and leaves `out` unchanged.
 pub fn write(answer: &[u8], entry: u64, r1: Vector, texts: &[u8], out: &mut [u8]) -> Result<usize, u8> {
     let entries = entries(answer).ok_or(BAD_ANSWER)?;
     let texts = legal_texts(texts).ok_or(BAD_TEXT)?;

@@ -1,4 +1,4 @@
-//! Changes of a right message that make something that is not a message, but nearly one.
+//! Changes of an orbit message after which the bytes are not an orbit message, but nearly one.
 
 mod lines;
 mod values;
@@ -6,7 +6,7 @@ mod values;
 use crate::opm::{BETWEEN, LINES, TEXT_KEYS};
 use crate::random::Random;
 
-/// A change of a right message after which it is no longer in the exact form.
+/// A change of an orbit message after which it is no longer in the exact form.
 pub type Change = fn(&[u8], &mut Random) -> Vec<u8>;
 
 /// Returns all changes.
@@ -14,7 +14,7 @@ pub fn changes() -> Vec<Change> {
     [lines::CHANGES, values::CHANGES].concat()
 }
 
-/// Returns the lines of a right message without their LF.
+/// Returns the lines of an orbit message without their LF.
 fn split(message: &[u8]) -> Vec<Vec<u8>> {
     let mut lines: Vec<Vec<u8>> = message.split(|&b| b == b'\n').map(<[u8]>::to_vec).collect();
     lines.pop();
@@ -26,14 +26,14 @@ fn joined(lines: &[Vec<u8>], end: &[u8]) -> Vec<u8> {
     lines.iter().flat_map(|line| [line, end].concat()).collect()
 }
 
-/// Returns the message with one line changed.
+/// Returns the orbit message with one line changed.
 fn with_line(message: &[u8], i: usize, change: impl FnOnce(Vec<u8>) -> Vec<u8>) -> Vec<u8> {
     let mut lines = split(message);
     lines[i] = change(lines[i].clone());
     joined(&lines, b"\n")
 }
 
-/// Returns the message with the value of one line changed.
+/// Returns the orbit message with the value of one line changed.
 pub fn with_value(message: &[u8], i: usize, change: impl FnOnce(&[u8]) -> Vec<u8>) -> Vec<u8> {
     with_line(message, i, |line| {
         let (key, value) = line.split_at(key_size(&line) + BETWEEN.len());

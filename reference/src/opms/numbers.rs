@@ -1,4 +1,4 @@
-//! Floats for the numbers of a message, most of them near a corner of the rounding or of the range.
+//! Floats for the numbers of an orbit message, most of them near a corner of the rounding or of the range.
 
 use crate::random::{pick, Random};
 

@@ -1,4 +1,4 @@
-//! Calls of the reader with bytes that are a message or nearly one.
+//! Calls of the reader with bytes that are an orbit message or nearly one.
 
 use super::near_misses::{changes, number_line, with_value};
 use crate::opm::{read_state, STATE_SIZE};
@@ -18,7 +18,7 @@ impl ReadCall {
     }
 }
 
-/// Numbers in the exact form that a right message rarely has. Most of them are ones that no float rounds to.
+/// Numbers in the exact form that an orbit message rarely has. No float rounds to some of them.
 const NUMBERS: [&str; 8] = [
     "9999999.999999999",
     "-9999999.999999999",
@@ -30,8 +30,9 @@ const NUMBERS: [&str; 8] = [
     "8999999.900000009",
 ];
 
-/// Draws a call whose message is a changed right message. Mostly the change makes it wrong; a change of a
-/// random byte or another number may leave it right. In some calls there is no room for the state.
+/// Draws a call whose bytes are a changed orbit message. After most changes they are not an orbit message;
+/// after a change of a random byte they may be one, and with another number they are one. In some calls there
+/// is no room for the state.
 pub fn near_miss(message: &[u8], r: &mut Random) -> ReadCall {
     let changed = match r.below(8) {
         0 => with_value(message, number_line(r), |_| pick(&NUMBERS, r).into()),

@@ -1,4 +1,4 @@
-//! The eight texts of a message as lines, each ended by LF, and lines that the writer refuses.
+//! The eight texts of an orbit message as lines, each ended by LF, and lines that the writer refuses.
 
 use crate::opm::{LONGEST_TEXT, TEXT_KEYS};
 use crate::random::{pick, Random};

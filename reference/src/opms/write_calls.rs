@@ -9,7 +9,7 @@ use crate::record::{Record, ENTRY, HEAD};
 use crate::solve::Entry;
 use crate::wire::{put, Vector};
 
-/// The size of a buffer with room for every message.
+/// The size of a buffer with room for every orbit message.
 pub const AMPLE: usize = 800;
 
 /// The arguments of a call of the writer. The position is given by the bits of its floats, and the buffer by
@@ -30,9 +30,9 @@ impl WriteCall {
     }
 }
 
-/// Draws call number `i` of a list of calls that the writer takes. The buffer has exactly the message's size,
-/// or is longer. In a list of 1047 calls or more, a number with every exponent below the bound occurs.
-/// Returns the six numbers of the message too.
+/// Draws call number `i` of a list of calls that the writer takes. The buffer has exactly the size of the
+/// orbit message, or is longer. In a list of 1047 calls or more, a number with every exponent below the bound
+/// occurs. Returns the six numbers of the orbit message too.
 pub fn right_call(i: u64, r: &mut Random) -> (WriteCall, [f64; 6]) {
     let mut numbers: [f64; 6] = std::array::from_fn(|_| numbers::small(r));
     numbers[i as usize % 6] = numbers::in_turn(i, r);
@@ -47,13 +47,13 @@ pub fn right_call(i: u64, r: &mut Random) -> (WriteCall, [f64; 6]) {
     (call, numbers)
 }
 
-/// Returns the size of the message of a call that the writer takes.
+/// Returns the size of the orbit message of a call that the writer takes.
 fn size(call: &WriteCall) -> usize {
     call.write(&mut [0; AMPLE]).expect("the call is right")
 }
 
-/// Returns an answer in which one entry has the given v1. Everything that a message doesn't contain is
-/// random. Some answers are for job 0.
+/// Returns an answer in which one entry has the given v1. Everything that an orbit message doesn't
+/// contain is random. Some answers are for job 0.
 fn answer(entries: u64, chosen: u64, v1: Vector, r: &mut Random) -> Vec<u8> {
     let mut any = || [(); 3].map(|()| f64::from_bits(r.word()));
     let mut velocities: Vec<[Vector; 2]> = (0..entries).map(|_| [any(), any()]).collect();

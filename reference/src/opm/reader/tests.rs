@@ -1,16 +1,16 @@
-//! Right messages and each near miss of one.
+//! Orbit messages that the reader accepts, and bytes that are nearly one.
 
 use super::super::tests::message;
 use super::*;
 
-/// Returns the message with the first occurrence of `old` replaced. Fails if there is none.
+/// Returns the orbit message with the first occurrence of `old` replaced. Fails if there is none.
 fn replaced(old: &str, new: &str) -> Vec<u8> {
     let message = String::from_utf8(message()).unwrap();
     assert!(message.contains(old), "{old}");
     message.replacen(old, new, 1).into_bytes()
 }
 
-/// Returns the message with another value of X.
+/// Returns the orbit message with another value of X.
 fn with_x(value: &str) -> Vec<u8> {
     replaced("\nX = 7000.000000000\n", &format!("\nX = {value}\n"))
 }
@@ -170,7 +170,7 @@ fn the_bytes_of_the_state() {
     assert_eq!(state[STATE_SIZE..], [0xB7; 9]);
 }
 
-/// B10 is checked before B8, and both leave the state unchanged.
+/// Bytes that are not an orbit message give 10 whatever the room is. Both refusals leave the state unchanged.
 #[test]
 fn refusals_of_the_reader() {
     for room in 0..STATE_SIZE + 20 {
