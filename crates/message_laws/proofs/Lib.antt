@@ -2,3 +2,4 @@ pub mod Exactness
 pub mod Refusals
 pub mod RoundTrip
 pub mod Lengths
+pub mod ClosedCases
