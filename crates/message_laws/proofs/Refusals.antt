@@ -16,11 +16,12 @@ use Rattle.orbit_message.specs.Texts.{every, textsIn, areTexts}
 use Rattle.orbit_message.specs.Writing.{Result, refusal, putOf, writeOf}
 use Rattle.orbit_message.specs.declared.writer.WriteResult.the-variants.{Message, Refused}
 use Rattle.orbit_message.proofs.TemplateValues.{zero-is-one}
-use Rattle.message_laws.specs.Refusals.{Condition, condition, firstThatHolds, numbers, message, conditions, resultFor, RefusesExactly}
+use Rattle.message_laws.specs.Refusals.{Condition, condition, firstThatHolds, numbers, message, conditions}
+use Rattle.message_laws.specs.Refusals.{resultOfFirst, RefusesExactly}
 
 module _ (answer : List ℕ) (entry : ℕ) (r1 : Vector) (texts out : List ℕ) where
   abbrev result : ℕ → Result
-  result k = resultFor answer entry r1 texts out k
+  result k = resultOfFirst answer entry r1 texts out k
 
   -- The chain of the definition, and the list of conditions, for any five truth values.
   abbrev chain : Bool → Bool → Bool → Bool → Bool → Result

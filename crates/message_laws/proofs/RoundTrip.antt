@@ -27,7 +27,7 @@ use Rattle.orbit_message.specs.declared.writer.WriteResult.the-variants.{Messag
 use Rattle.orbit_message.proofs.EveryElement.{both}
 use Rattle.message_laws.specs.Exactness.{IsMessage}
 use Rattle.message_laws.specs.RoundTrip.{ReadsBack}
-use Rattle.message_laws.specs.Refusals.{Condition, condition, firstThatHolds, numbers, message, conditions, resultFor}
+use Rattle.message_laws.specs.Refusals.{Condition, condition, firstThatHolds, numbers, message, conditions, resultOfFirst}
 use Rattle.message_laws.proofs.Refusals.{refuses-exactly}
 use Rattle.message_laws.proofs.Exactness.{reads-exactly}
 
@@ -91,7 +91,7 @@ module _ (answer : List ℕ) (entry : ℕ) (r1 : Vector) (texts out : List ℕ) 
       back n e =
           let law = refuses-exactly answer entry r1 texts out in
           let none = law .written n e in
-          let whole = law .result-is ∙ ap (resultFor answer entry r1 texts out) none in
+          let whole = law .result-is ∙ ap (resultOfFirst answer entry r1 texts out) none in
           let told : Message (length text) ≡ Message n = sym (ap (λ (r : Result). r .result) whole) ∙ e in
           let size : length text ≡ n = cc in
           let buffer = ap (λ (r : Result). take n (r .buffer)) whole ∙ take-at text (drop (length text) out) n size in

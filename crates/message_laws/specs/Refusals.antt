@@ -21,6 +21,7 @@ pub record Condition : Type 0 where
   pub number : ℕ
   pub holds : Bool
 
+-- The condition of the refusal with the number k.
 abbrev pub condition : ℕ → Bool → Condition
 condition k b = record { number = k; holds = b }
 
@@ -48,13 +49,13 @@ module _ (answer : List ℕ) (entry : ℕ) (r1 : Vector) (texts out : List ℕ) 
       ∷ []
 
   -- The result if k is the number of the first condition that holds, or 0.
-  abbrev pub resultFor : ℕ → Result
-  resultFor zero = record { result = Message (length message); buffer = message ++ drop (length message) out }
-  resultFor (suc k) = refusal (suc k) out
+  abbrev pub resultOfFirst : ℕ → Result
+  resultOfFirst zero = record { result = Message (length message); buffer = message ++ drop (length message) out }
+  resultOfFirst (suc k) = refusal (suc k) out
 
   -- `write` refuses with a number exactly if the condition with this number is the first that holds, and then the buffer is unchanged. If
   -- no condition holds, and only then, it writes the message.
   pub record RefusesExactly : Type 0 where
-    pub result-is : writeOf answer entry r1 texts out ≡ resultFor (firstThatHolds conditions)
+    pub result-is : writeOf answer entry r1 texts out ≡ resultOfFirst (firstThatHolds conditions)
     pub refused : (k : ℕ) → writeOf answer entry r1 texts out .result ≡ Refused k → firstThatHolds conditions ≡ k
     pub written : (n : ℕ) → writeOf answer entry r1 texts out .result ≡ Message n → firstThatHolds conditions ≡ 0
