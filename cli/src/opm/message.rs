@@ -85,7 +85,8 @@ fn not_writable(key: Key, question: &Question, entry: &Entry) -> String {
         Some((name, value)) => format!("{name} is {}, which", number(*value)),
     };
     format!(
-        "{}: {what} is not finite or not below 10^7 in size, so no orbit message can hold it (B7)",
+        "{}: {what} is not finite or not below 10^7 in size, so no orbit message can hold it; \
+         the answer still has the transfer (B7)",
         words_of(key)
     )
 }
