@@ -2,6 +2,8 @@
 //! not compute transfers, change boards or write orbit messages itself: the functions of `proved` do that.
 #![deny(unsafe_code)]
 
+#[allow(dead_code)]
+mod arc;
 mod ask;
 mod board;
 mod check;
