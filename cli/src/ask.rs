@@ -66,7 +66,7 @@ const DEFAULT_REVOLUTIONS: &str = "0";
 
 /// Prints the gravitational parameter that is used and, if it was named by a body, its source.
 fn say_mu(text: &str, value: f64) {
-    let source = fields::BODIES.iter().find(|(name, ..)| *name == text);
-    let source = source.map(|(name, _, source)| format!(" ({name}, {source})")).unwrap_or_default();
+    let source = fields::BODIES.iter().find(|body| body.name == text);
+    let source = source.map(|body| format!(" ({}, {})", body.name, body.source)).unwrap_or_default();
     tell(&format!("mu {value:?} km^3/s^2{source}"));
 }

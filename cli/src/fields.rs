@@ -1,16 +1,11 @@
 //! Reads the fields of a question, and of a request for an orbit message, from text. These functions refuse
 //! only what a field cannot hold. The proved libraries check the rest.
 
-/// The bodies that `--mu` knows by name: the gravitational parameter in km³/s², and the source of the value. The value is that of
-/// the body alone, without its moons.
-pub const BODIES: [(&str, f64, &str); 4] = [
-    ("earth", 398_600.441_8, "WGS 84, as in GeographicLib 2.1.2"),
-    ("moon", 4_902.800_066_163_796, HORIZONS),
-    ("mars", 42_828.373_620_699_09, HORIZONS),
-    ("sun", 132_712_440_041.939_38, HORIZONS),
-];
+#[allow(dead_code)]
+mod bodies;
 
-const HORIZONS: &str = "JPL's gm_Horizons.pck, as in Skyfield 1.45";
+#[allow(unused_imports)]
+pub use bodies::{body_of, Body, BODIES};
 
 const UNITS: [(&str, f64); 4] = [("s", 1.0), ("min", 60.0), ("h", 3_600.0), ("d", 86_400.0)];
 
@@ -84,8 +79,8 @@ pub fn way(text: &str) -> Result<bool, String> {
 
 /// Reads a gravitational parameter: a number, or the name of a body.
 pub fn mu(text: &str) -> Result<f64, String> {
-    match BODIES.iter().find(|(name, ..)| *name == text.trim()) {
-        Some((_, value, _)) => Ok(*value),
+    match BODIES.iter().find(|body| body.name == text.trim()) {
+        Some(body) => Ok(body.mu),
         None if text.trim().starts_with(char::is_alphabetic) => {
             Err(format!("{:?} is not a number and not one of earth, moon, mars, sun", text.trim()))
         }

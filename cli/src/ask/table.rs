@@ -56,9 +56,9 @@ fn question(row: &Row, columns: &Columns, mistakes: &mut Mistakes) -> Option<Que
 
 /// Prints the value of each body that the file names, once per body.
 fn say_bodies(rows: &[Row], columns: &Columns) {
-    for (name, value, _) in fields::BODIES {
-        if rows.iter().any(|row| columns.cell(row, "mu").is_some_and(|text| text.trim() == name)) {
-            say_mu(name, value);
+    for body in &fields::BODIES {
+        if rows.iter().any(|row| columns.cell(row, "mu").is_some_and(|text| text.trim() == body.name)) {
+            say_mu(body.name, body.mu);
         }
     }
 }

@@ -63,3 +63,15 @@ fn names_are_exact() {
     assert_eq!(vector("1,2,3,4"), Err("has 4 components, not 3".into()));
     assert_eq!(vector("1,,3"), Err("is empty".into()));
 }
+
+#[test]
+fn a_body_is_found_by_its_mu() {
+    for (name, radius) in [("earth", 6_378.137), ("moon", 1_737.4), ("mars", 3_396.19), ("sun", 695_700.0)] {
+        let value = mu(name).expect("a body");
+        let body = body_of(value).expect("a body");
+        assert_eq!((body.name, body.radius), (name, radius));
+        assert!(!body.source.is_empty() && !body.radius_source.is_empty());
+        assert!(body_of(value.next_up()).is_none() && body_of(-value).is_none());
+    }
+    assert!(body_of(f64::NAN).is_none());
+}
