@@ -21,13 +21,14 @@ pub fn run(words: &[String]) -> Result<u8, Stop> {
     let mut tally = Tally::default();
     inputs.iter_mut().try_for_each(|input| posting::post_all(input, &mut board, &mut tally))?;
     inputs.extend(stored);
-    let mut output = Output::open(options.value("-o"), &inputs)?;
+    let ids: Vec<_> = inputs.iter().map(Input::id).collect();
+    let mut output = Output::open(options.value("-o"), &ids)?;
     if options.has("--bytes") {
         output.put(&board)?;
     } else {
         output.put(table::table(&board).as_bytes())?;
     }
-    output.flush()?;
+    output.finish()?;
     Ok(status(&board, &tally, options.has("--strict")))
 }
 

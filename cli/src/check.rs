@@ -1,19 +1,20 @@
 //! `check`: prints the counts of a well-formed file, or where a file is not well-formed.
 
+use crate::expected;
 use crate::options::Options;
 use crate::stop::Stop;
-use crate::streams::{Input, Output};
+use crate::streams::{write_text, Input};
 use crate::wire::{Fault, Outcome, Question, Records, Slots};
 use std::collections::BTreeMap;
 use std::io::BufReader;
 
 pub fn run(words: &[String]) -> Result<u8, Stop> {
     let options = Options::read(words, &["--questions"], &[])?;
-    let input = Input::open(options.file()?)?;
-    let summary = if options.has("--questions") { questions(input)? } else { records(input)? };
-    let mut output = Output::open(None, &[])?;
-    output.put(summary.as_bytes())?;
-    output.flush()?;
+    let summary = match options.has("--questions") {
+        true => questions(expected::questions(options.file()?)?)?,
+        false => records(expected::records(options.file()?)?)?,
+    };
+    write_text(None, &[], &summary)?;
     Ok(0)
 }
 

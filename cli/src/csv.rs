@@ -2,7 +2,10 @@
 
 mod columns;
 
-pub use columns::Columns;
+pub use columns::{Column, Columns};
+
+use crate::stop::Stop;
+use std::io::{self, BufRead, Read};
 
 /// The fields of a row, and the number of the line on which the row begins.
 #[derive(Debug, PartialEq)]
@@ -20,33 +23,85 @@ pub fn field(text: &str) -> String {
     }
 }
 
-/// Returns the text of a row, with its line end.
+/// Returns the text of a row, with its line end, which is LF.
 pub fn line(fields: &[String]) -> String {
     let fields: Vec<String> = fields.iter().map(|text| field(text)).collect();
-    fields.join(",") + "\r\n"
+    fields.join(",") + "\n"
 }
 
-/// Reads the rows of a text. Lines end with LF or CRLF. For a mistake, returns its line number and a message.
-pub fn rows(text: &str) -> Result<Vec<Row>, (usize, String)> {
-    let mut rest = text.strip_prefix('\u{feff}').unwrap_or(text);
-    let (mut rows, mut line) = (Vec::new(), 1);
-    while !rest.is_empty() {
+/// The most bytes of a row.
+const LONGEST: usize = 1 << 20;
+
+/// Why no row can be read: a read failed, or a line has a mistake.
+#[derive(Debug)]
+pub enum Fault {
+    Read(io::Error),
+    Line(usize, String),
+}
+
+impl Fault {
+    /// Returns the reason for which the command stops, with the name of the file.
+    pub fn stop(&self, name: &str) -> Stop {
+        match self {
+            Fault::Read(e) => Stop::reading(name, e),
+            Fault::Line(line, words) => Stop::Said(format!("{name}: line {line}: {words}")),
+        }
+    }
+}
+
+/// Reads rows one by one. Lines end with LF or CRLF.
+pub struct Rows<R> {
+    input: R,
+    /// The number of lines read so far.
+    lines: usize,
+}
+
+impl<R: BufRead> Rows<R> {
+    pub fn new(input: R) -> Self {
+        Rows { input, lines: 0 }
+    }
+
+    /// Returns the next row, or `None` at the end of the input.
+    pub fn next(&mut self) -> Result<Option<Row>, Fault> {
+        let line = self.lines + 1;
+        let text = self.text(line)?;
+        let mut rest = text.as_str();
+        if rest.is_empty() {
+            return Ok(None);
+        }
         let mut row = Row { line, fields: Vec::new() };
         loop {
-            let (text, after) = next_field(rest).map_err(|words| (line, words.to_string()))?;
-            line += text.matches('\n').count();
+            let (text, after) = next_field(rest).map_err(|words| Fault::Line(line, words.into()))?;
             row.fields.push(text);
-            if let Some(after) = after.strip_prefix(',') {
-                rest = after;
-            } else {
-                rest = after.strip_prefix("\r\n").or(after.strip_prefix('\n')).unwrap_or(after);
+            match after.strip_prefix(',') {
+                Some(after) => rest = after,
+                None => return Ok(Some(row)),
+            }
+        }
+    }
+
+    /// Reads the text of the row that begins on `line`: lines up to the one that closes every quote.
+    fn text(&mut self, line: usize) -> Result<String, Fault> {
+        let (mut bytes, mut quotes) = (Vec::new(), 0);
+        loop {
+            let had = bytes.len();
+            let limited = &mut self.input.by_ref().take((LONGEST + 1 - had) as u64);
+            let more = limited.read_until(b'\n', &mut bytes).map_err(Fault::Read)?;
+            if bytes.len() > LONGEST {
+                return Err(Fault::Line(line, format!("the row has more than {LONGEST} bytes")));
+            }
+            self.lines += usize::from(more > 0);
+            quotes += bytes[had..].iter().filter(|byte| **byte == b'"').count();
+            if more == 0 || quotes % 2 == 0 {
                 break;
             }
         }
-        rows.push(row);
-        line += 1;
+        let text = String::from_utf8(bytes).map_err(|_| Fault::Line(line, "is not UTF-8 text".into()))?;
+        match text.strip_prefix('\u{feff}') {
+            Some(rest) if line == 1 => Ok(rest.into()),
+            _ => Ok(text),
+        }
     }
-    Ok(rows)
 }
 
 /// Returns the first field of a text and the rest of the text, which begins with a comma or a line end or is empty.
@@ -78,41 +133,4 @@ fn next_field(text: &str) -> Result<(String, &str), &'static str> {
 }
 
 #[cfg(test)]
-mod tests {
-    use super::*;
-
-    fn read(text: &str) -> Vec<(usize, Vec<String>)> {
-        rows(text).expect("rows").into_iter().map(|row| (row.line, row.fields)).collect()
-    }
-
-    #[test]
-    fn rows_have_their_lines() {
-        let found = read("a,b\r\n\"x,\n\"\"y\"\"\",2\n,\nlast");
-        let expected: [(usize, &[&str]); 4] =
-            [(1, &["a", "b"]), (2, &["x,\n\"y\"", "2"]), (4, &["", ""]), (5, &["last"])];
-        assert_eq!(found.len(), expected.len());
-        for ((line, fields), (at, texts)) in found.iter().zip(expected) {
-            let texts: Vec<String> = texts.iter().map(|text| text.to_string()).collect();
-            assert_eq!((*line, fields), (at, &texts));
-        }
-        assert_eq!(read(""), []);
-        assert_eq!(read("\u{feff}a\n\n"), [(1, vec!["a".to_string()]), (2, vec![String::new()])]);
-    }
-
-    #[test]
-    fn what_is_written_is_read_back() {
-        let fields: Vec<String> = ["", "a,b", "say \"x\"", "two\r\nlines", "plain"].map(String::from).into();
-        assert_eq!(rows(&line(&fields)), Ok(vec![Row { line: 1, fields }]));
-    }
-
-    #[test]
-    fn mistakes_have_their_lines() {
-        for (text, at, words) in [
-            ("a\n\"b", 2, "a quote is not closed"),
-            ("a\nb\n\"c\"d", 3, "text follows a closing quote"),
-            ("a\"b", 1, "a quote is inside a field that has no quotes around it"),
-        ] {
-            assert_eq!(rows(text), Err((at, words.to_string())));
-        }
-    }
-}
+mod tests;

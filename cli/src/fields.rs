@@ -1,10 +1,10 @@
 //! Reads the fields of a question, and of a request for an orbit message, from text. These functions refuse
 //! only what a field cannot hold. The proved libraries check the rest.
 
-#[allow(dead_code)]
+use crate::words::{quoted, shortened};
+
 mod bodies;
 
-#[allow(unused_imports)]
 pub use bodies::{body_of, Body, BODIES};
 
 const UNITS: [(&str, f64); 4] = [("s", 1.0), ("min", 60.0), ("h", 3_600.0), ("d", 86_400.0)];
@@ -18,12 +18,14 @@ pub fn real(text: &str) -> Result<f64, String> {
     let numeral = text.starts_with(|c: char| c.is_ascii_digit() || "+-.".contains(c))
         && text.chars().all(|c| c.is_ascii_digit() || "+-.eE".contains(c));
     match text.parse::<f64>() {
-        Ok(value) if numeral && value.is_infinite() => Err(format!("{text:?} is too large for an f64")),
+        Ok(value) if numeral && value.is_infinite() => {
+            Err(format!("{} is too large for an f64", quoted(text)))
+        }
         Ok(value) if numeral && value == 0.0 && has_digit(text) => {
-            Err(format!("{text:?} is too small for an f64"))
+            Err(format!("{} is too small for an f64", quoted(text)))
         }
         Ok(value) if numeral => Ok(value),
-        _ => Err(format!("{text:?} is not a number")),
+        _ => Err(format!("{} is not a number", quoted(text))),
     }
 }
 
@@ -39,11 +41,11 @@ pub fn whole(text: &str, max: u32) -> Result<u32, String> {
     match text.parse::<u32>() {
         _ if text.is_empty() => Err("is empty".into()),
         _ if digits.is_empty() || !digits.chars().all(|c| c.is_ascii_digit()) => {
-            Err(format!("{text:?} is not a whole number"))
+            Err(format!("{} is not a whole number", quoted(text)))
         }
-        _ if digits != text => Err(format!("{text} is negative")),
+        _ if digits != text => Err(format!("{} is negative", shortened(text))),
         Ok(value) if value <= max => Ok(value),
-        _ => Err(format!("{text} is above {max}")),
+        _ => Err(format!("{} is above {max}", shortened(text))),
     }
 }
 
@@ -73,7 +75,7 @@ pub fn way(text: &str) -> Result<bool, String> {
         "short" => Ok(false),
         "long" => Ok(true),
         "" => Err("is empty".into()),
-        other => Err(format!("{other:?} is neither short nor long")),
+        other => Err(format!("{} is neither short nor long", quoted(other))),
     }
 }
 
@@ -82,7 +84,7 @@ pub fn mu(text: &str) -> Result<f64, String> {
     match BODIES.iter().find(|body| body.name == text.trim()) {
         Some(body) => Ok(body.mu),
         None if text.trim().starts_with(char::is_alphabetic) => {
-            Err(format!("{:?} is not a number and not one of earth, moon, mars, sun", text.trim()))
+            Err(format!("{} is not a number and not one of earth, moon, mars, sun", quoted(text.trim())))
         }
         None => real(text),
     }
@@ -95,9 +97,9 @@ pub fn time(text: &str) -> Result<f64, String> {
     let unit = text[number.len()..].trim_start();
     let value = real(if number.is_empty() { text } else { number })?;
     match UNITS.iter().find(|(name, _)| *name == unit || (unit.is_empty() && *name == "s")) {
-        None => Err(format!("{unit:?} is not a unit of time: s, min, h or d")),
+        None => Err(format!("{} is not a unit of time: s, min, h or d", quoted(unit))),
         Some((_, seconds)) if (value * seconds).is_infinite() => {
-            Err(format!("{text:?} is too large for an f64"))
+            Err(format!("{} is too large for an f64", quoted(text)))
         }
         Some((_, seconds)) => Ok(value * seconds),
     }

@@ -8,6 +8,7 @@ mod ask;
 mod board;
 mod check;
 mod csv;
+mod expected;
 mod fields;
 mod help;
 mod mistakes;
@@ -20,9 +21,12 @@ mod proved;
 mod refusal;
 mod rows;
 mod show;
+mod similar;
 mod solve;
 mod stop;
 mod streams;
+#[allow(unsafe_code)]
+mod terminal;
 mod wire;
 mod words;
 
@@ -67,17 +71,19 @@ fn run(words: &[String]) -> Result<u8, Stop> {
         return say(help::WHOLE);
     }
     let Some((_, help, command)) = COMMANDS.iter().find(|(name, ..)| name == first) else {
-        return Stop::said(format!("unknown command {first}; 'lambert-cli --help' lists them"));
+        let known = COMMANDS.iter().map(|(name, ..)| *name);
+        let meant = similar::similar(first, known).map(|name| format!("did you mean {name}? "));
+        let first = words::shortened(first);
+        let meant = meant.unwrap_or_default();
+        return Stop::said(format!("unknown command {first}; {meant}'lambert-cli --help' lists them"));
     };
-    if rest.iter().any(|word| word == "--help" || word == "-h") {
+    if rest.iter().take_while(|word| *word != "--").any(|word| word == "--help" || word == "-h") {
         return say(help);
     }
     command(rest)
 }
 
 fn say(text: &str) -> Result<u8, Stop> {
-    let mut output = streams::Output::open(None, &[])?;
-    output.put(text.as_bytes())?;
-    output.flush()?;
+    streams::write_text(None, &[], text)?;
     Ok(0)
 }

@@ -1,48 +1,61 @@
 //! The mistakes in what a command was given. They are collected, so that one run prints them all.
 
 use crate::stop::Stop;
+use crate::words::counted;
 
 /// The mistakes found so far, each with the option or the line and column where it is.
-#[derive(Default)]
 pub struct Mistakes {
-    pub list: Vec<String>,
+    list: Vec<String>,
+    /// The most mistakes that are kept. The others are only counted: a file can have very many.
+    most: usize,
+    more: u64,
+}
+
+impl Default for Mistakes {
+    fn default() -> Mistakes {
+        Mistakes { list: Vec::new(), most: 20, more: 0 }
+    }
 }
 
 impl Mistakes {
-    /// The most mistakes that `stop` prints.
-    const TOLD: usize = 20;
+    /// Returns an empty list that will keep every mistake.
+    pub fn all() -> Mistakes {
+        Mistakes { most: usize::MAX, ..Mistakes::default() }
+    }
 
     pub fn take<T: Default>(&mut self, place: &str, read: Result<T, String>) -> T {
         read.unwrap_or_else(|reason| {
-            self.list.push(format!("{place}: {reason}"));
+            self.push(format!("{place}: {reason}"));
             T::default()
         })
+    }
+
+    pub fn push(&mut self, mistake: String) {
+        if self.list.len() < self.most {
+            self.list.push(mistake);
+        } else {
+            self.more += 1;
+        }
     }
 
     /// Adds mistakes, each of them once.
     pub fn add(&mut self, mistakes: Vec<String>) {
         mistakes.into_iter().for_each(|mistake| {
             if !self.list.contains(&mistake) {
-                self.list.push(mistake);
+                self.push(mistake);
             }
         });
     }
 
-    /// Stops the command with the first mistakes and the number of the others, if there are any.
+    pub fn count(&self) -> u64 {
+        self.list.len() as u64 + self.more
+    }
+
+    /// Stops the command with the mistakes that were kept and the number of the others, if there are any.
     pub fn stop(&self) -> Result<(), Stop> {
-        self.stop_after(Mistakes::TOLD)
-    }
-
-    /// Stops the command with every mistake, if there are any.
-    pub fn stop_with_all(&self) -> Result<(), Stop> {
-        self.stop_after(self.list.len())
-    }
-
-    fn stop_after(&self, most: usize) -> Result<(), Stop> {
-        let more = self.list.len().saturating_sub(most);
-        let mut told = self.list[..self.list.len() - more].join("\nlambert-cli: ");
-        if more > 0 {
-            told += &format!("\nlambert-cli: and {more} more mistakes");
+        let mut told = self.list.join("\nlambert-cli: ");
+        if self.more > 0 {
+            told += &format!("\nlambert-cli: and {}", counted(self.more, "more mistake"));
         }
         if told.is_empty() {
             Ok(())

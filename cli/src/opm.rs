@@ -13,6 +13,7 @@ mod request;
 mod sources;
 mod texts;
 
+use crate::ask::single::missing;
 use crate::fields;
 use crate::mistakes::Mistakes;
 use crate::options::Options;
@@ -27,49 +28,42 @@ const FILES: [&str; 4] = ["--questions", "--list", "--to", "-o"];
 
 pub fn run(words: &[String]) -> Result<u8, Stop> {
     let valued = [&texts::OPTIONS[..], &CHOICE, &FILES].concat();
-    let options = Options::read(words, &["--read", "--json"], &valued)?;
+    let options = Options::read(words, &["--read", "--json", "--ignore-extra"], &valued)?;
     if options.has("--read") {
-        apart(&options, "--read", &valued)?;
+        options.apart("--read", &valued)?;
         return reading::run(&options);
     }
     if options.has("--json") {
         return Stop::said("--json goes with --read alone");
     }
     if options.has("--list") {
-        apart(&options, "--list", &[&CHOICE[..], &["-o"]].concat())?;
+        options.apart("--list", &[&CHOICE[..], &["-o"]].concat())?;
         return listed(&options);
     }
-    if options.has("--to") {
-        return Stop::said("--to goes with --list alone");
+    if let Some(option) = ["--to", "--ignore-extra"].iter().find(|option| options.has(option)) {
+        return Stop::said(format!("{option} goes with --list alone"));
     }
     single(&options)
-}
-
-/// Fails if an option in `others` is given, since none of them goes together with `option`.
-fn apart(options: &Options, option: &str, others: &[&str]) -> Result<(), Stop> {
-    match others.iter().find(|other| options.has(other)) {
-        Some(other) => Stop::said(format!("{other} and {option} do not go together")),
-        None => Ok(()),
-    }
 }
 
 /// Writes the orbit message that the options ask for.
 fn single(options: &Options) -> Result<u8, Stop> {
     let given = texts::given(options)?;
     let mut mistakes = Mistakes::default();
-    let needed = |name: &str, there: bool| (!there).then(|| format!("{name}: is missing"));
-    mistakes.list.extend(needed("--questions", options.has("--questions")));
-    let texts = texts::OPTIONS.iter().zip(&given);
-    mistakes.list.extend(texts.filter_map(|(name, text)| needed(name, text.is_some())));
+    missing(options, &["--questions"], &mut mistakes);
+    missing(options, &texts::OPTIONS[1..], &mut mistakes);
     let request = request(options, given, &mut mistakes);
     mistakes.stop()?;
     let mut inputs = sources::open(options)?;
-    match message::make(&request, &Sources::read(&mut inputs)?) {
-        Err(list) => Mistakes { list }.stop()?,
+    match message::make(&request, &Sources::read(&mut inputs, std::slice::from_ref(&request))?) {
+        Err(words) => {
+            mistakes.add(words);
+            mistakes.stop()?;
+        }
         Ok(message) => {
-            let mut output = Output::open(options.value("-o"), &inputs)?;
+            let mut output = Output::open(options.value("-o"), &inputs.each_ref().map(Input::id))?;
             output.put(&message.bytes)?;
-            output.flush()?;
+            output.finish()?;
         }
     }
     Ok(0)
@@ -92,24 +86,24 @@ fn request(options: &Options, given: [Option<Text>; 8], mistakes: &mut Mistakes)
 
 /// Writes the orbit messages of a list. It makes all of them before it writes the first.
 fn listed(options: &Options) -> Result<u8, Stop> {
-    let mut mistakes = Mistakes::default();
-    let missing = ["--questions", "--to"].into_iter().filter(|name| !options.has(name));
-    mistakes.list.extend(missing.map(|name| format!("{name}: is missing")));
+    let mut mistakes = Mistakes::all();
+    missing(options, &["--questions", "--to"], &mut mistakes);
     mistakes.stop()?;
     let folder = options.value("--to").unwrap_or_default();
     let mut inputs = sources::open(options)?;
     let mut list = Input::open(options.value("--list"))?;
-    let requests = list::requests(&mut list, &texts::given(options)?, &mut mistakes)?;
-    let sources = Sources::read(&mut inputs)?;
+    let ignore_extra = options.has("--ignore-extra");
+    let requests = list::requests(&mut list, ignore_extra, &texts::given(options)?, &mut mistakes)?;
+    let sources = Sources::read(&mut inputs, &requests)?;
     let mut files = folder::Files::new();
     for request in &requests {
         match message::make(request, &sources) {
             Err(words) => mistakes.add(words),
-            Ok(message) => folder::add(&mut files, folder, request.place, message, &mut mistakes),
+            Ok(message) => folder::add(&mut files, folder, &request.place, message, &mut mistakes),
         }
     }
     let present = folder::leave_out_present(&mut files, &mut mistakes);
-    mistakes.stop_with_all()?;
+    mistakes.stop()?;
     folder::write(folder, &files, present)?;
     Ok(0)
 }

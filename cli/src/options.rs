@@ -1,6 +1,8 @@
 //! The arguments of a command: options, each at most once, and file names.
 
+use crate::similar::similar;
 use crate::stop::Stop;
+use crate::words::shortened;
 
 pub struct Options {
     values: Vec<(&'static str, String)>,
@@ -9,7 +11,7 @@ pub struct Options {
 
 impl Options {
     /// Reads the arguments. The options in `flags` have no value. The value of an option in `valued` is the next argument, or the text
-    /// after its `=`.
+    /// after its `=`. After `--` every argument is a file name.
     pub fn read(words: &[String], flags: &[&'static str], valued: &[&'static str]) -> Result<Options, Stop> {
         let mut options = Options { values: Vec::new(), files: Vec::new() };
         let mut words = words.iter();
@@ -25,8 +27,10 @@ impl Options {
                     Some(value) => options.put(option, value)?,
                     None => return Stop::said(format!("{name} needs a value after it")),
                 }
+            } else if word == "--" {
+                options.files.extend(words.by_ref().cloned());
             } else if word.starts_with('-') && word != "-" {
-                return Stop::said(format!("unknown option {word}"));
+                return Stop::said(unknown(word, name, flags, valued));
             } else {
                 options.files.push(word.clone());
             }
@@ -55,9 +59,29 @@ impl Options {
         match &self.files[..] {
             [] => Ok(None),
             [name] => Ok(Some(name)),
-            [_, second, ..] => Stop::said(format!("one file at most, but {second} is a second one")),
+            [_, second, ..] => {
+                Stop::said(format!("one file at most, but {} is a second one", shortened(second)))
+            }
         }
     }
+
+    /// Fails if an option in `others` is given, since none of them goes together with `option`.
+    pub fn apart(&self, option: &str, others: &[&str]) -> Result<(), Stop> {
+        match others.iter().find(|other| self.has(option) && self.has(other)) {
+            Some(other) => Stop::said(format!("{option} and {other} do not go together")),
+            None => Ok(()),
+        }
+    }
+}
+
+/// Returns a message for an unknown option, with the known option that it resembles.
+fn unknown(word: &str, name: &str, flags: &[&'static str], valued: &[&'static str]) -> String {
+    let known = flags.iter().chain(valued).copied();
+    if let Some(flag) = flags.iter().find(|flag| **flag == name) {
+        return format!("{flag} takes no value, but {} gives it one", shortened(word));
+    }
+    let meant = similar(name, known).map(|option| format!("; did you mean {option}?")).unwrap_or_default();
+    format!("unknown option {}{meant}", shortened(word))
 }
 
 #[cfg(test)]
@@ -79,14 +103,26 @@ mod tests {
         assert!(options.has("--strict"));
         assert_eq!(options.files, ["-"]);
         assert_eq!(read(&["--jobs=3"]).expect("good words").value("--jobs"), Some("3"));
+        let options = read(&["--strict", "--", "--jobs", "-o", "--"]).expect("good words");
+        assert_eq!(options.files, ["--jobs", "-o", "--"]);
+    }
+
+    #[test]
+    fn options_are_kept_apart() {
+        let options = read(&["--strict", "--jobs", "2"]).expect("good words");
+        assert!(options.apart("--strict", &["-o"]).is_ok() && options.apart("-o", &["--jobs"]).is_ok());
+        let told = options.apart("--strict", &["-o", "--jobs"]);
+        assert!(matches!(told, Err(Stop::Said(words)) if words == "--strict and --jobs do not go together"));
     }
 
     #[test]
     fn mistakes_are_named() {
         let said = |words: &[&str]| read(words).err().expect("a mistake");
         assert_eq!(said(&["--jobs"]), "--jobs needs a value after it");
-        assert_eq!(said(&["--job", "1"]), "unknown option --job");
+        assert_eq!(said(&["--job", "1"]), "unknown option --job; did you mean --jobs?");
+        assert_eq!(said(&["--fast"]), "unknown option --fast");
+        assert_eq!(said(&["--jbos=3"]), "unknown option --jbos=3; did you mean --jobs?");
         assert_eq!(said(&["--strict", "--strict"]), "--strict is given twice");
-        assert_eq!(said(&["--strict=1"]), "unknown option --strict=1");
+        assert_eq!(said(&["--strict=1"]), "--strict takes no value, but --strict=1 gives it one");
     }
 }

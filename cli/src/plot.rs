@@ -9,28 +9,26 @@ mod svg;
 mod ticks;
 mod trace;
 
+use crate::expected;
 use crate::options::Options;
 use crate::proved::record_of;
 use crate::stop::Stop;
-use crate::streams::{Input, Output};
+use crate::streams::write_text;
 use crate::wire::{Record, Records};
 use choice::Choice;
 use curve::Curve;
-use std::slice::from_ref;
 
 /// Runs the command. It opens the output only when the picture is ready, so that a failure leaves no empty file.
 pub fn run(words: &[String]) -> Result<u8, Stop> {
     let options = Options::read(words, &[], &["--job", "--slot", "-o"])?;
     let choice = Choice::read(&options)?;
-    let mut input = Input::open(options.file()?)?;
+    let mut input = expected::questions(options.file()?)?;
     let question = choice.question(&mut input)?;
     let slot = question.bytes();
     let record = record(&slot)?;
     let curve = Curve::of(&slot, &record.outcome);
     let picture = page::page(&question, &record.outcome, curve.as_ref());
-    let mut output = Output::open(options.value("-o"), from_ref(&input))?;
-    output.put(picture.as_bytes())?;
-    output.flush()?;
+    write_text(options.value("-o"), &[input.id()], &picture)?;
     Ok(0)
 }
 

@@ -45,6 +45,12 @@ pub fn stations(question: &[u8]) -> Vec<i64> {
     (0..count).map(|i| unsafe { lambert_station(i as u16) }).collect()
 }
 
+/// Returns the place of a question's last station, or `None` if the question does not pass the entrance checks.
+pub fn last_station(question: &[u8]) -> Option<i64> {
+    let count = unsafe { lambert_stations(question.as_ptr(), question.len()) };
+    count.checked_sub(1).map(|i| unsafe { lambert_station(i as u16) })
+}
+
 /// Returns the bits of the time at the place `k` of a question, or all ones if there is none.
 pub fn time(question: &[u8], k: i64) -> u64 {
     unsafe { lambert_time(question.as_ptr(), question.len(), k) }

@@ -1,14 +1,44 @@
-//! What the number of a refusal means, in words for a controller.
+//! What the number of a refusal means, in words for a controller. No refusal says that no transfer exists, and each says so.
 
-/// The meaning of a refusal. Each meaning says that the refusal does not rule out a transfer.
+pub mod nothing_found;
+
+/// What no refusal says.
+const NOT_SAID: &str = "this does not say that no transfer exists";
+
+/// Returns the meaning of a refusal as one sentence that fits a line.
+pub fn short(number: u16) -> String {
+    format!("{}; {NOT_SAID}", gist(number))
+}
+
+/// Returns the meaning of a refusal in full.
 pub fn words(number: u16) -> String {
     match number {
         11 => row(number).into(),
-        _ => format!("{} (this does not say that no transfer exists)", row(number)),
+        _ => format!("{} ({NOT_SAID})", row(number)),
     }
 }
 
-/// The row of a number in the table of docs/FORMAT.md. The row of 11 itself says what it does not rule out.
+fn gist(number: u16) -> &'static str {
+    match number {
+        1 => "damaged, or not a question",
+        2 => "a position is not finite, or above 2^40 km",
+        3 => "a distance from the centre is below 1 km or above 2^40 km",
+        4 => "mu is not finite, below 1 or above 2^60 km^3/s^2",
+        5 => "the time is not finite, below 1 s or above 2^40 s",
+        6 => "more than 16 whole revolutions",
+        7 => "the answer buffer is too small",
+        8 => "the positions do not define a plane",
+        9 => "the positions are too close together",
+        10 => "the triangle is flat",
+        11 => "nothing was found among the shapes searched",
+        12 => "nothing was found, and the search is incomplete",
+        13 => "more transfers were found than an answer can hold",
+        14 => "a velocity is not finite",
+        _ => "not a number of the table",
+    }
+}
+
+/// The row of a number in the table of docs/FORMAT.md. The row of 11 itself says what it does not say.
 fn row(number: u16) -> &'static str {
     match number {
         1 => {
@@ -34,14 +64,18 @@ fn row(number: u16) -> &'static str {
              an f64 can tell"
         }
         11 => {
-            "no transfer was found: x was searched from -4095/4096 to 4 (with whole revolutions to \
-             4095/4096) at stations 1/4096 apart, every station has a time, and no two neighbouring \
-             stations have times on different sides of the wanted time. This does not say that no \
-             transfer exists: outside that range there may be a slower one or, without whole revolutions, \
-             a faster one (a hyperbola beyond x = 4), and two transfers between the same two neighbouring \
-             stations are not seen"
+            "nothing was found among the shapes searched. Searched were ellipses and, without whole \
+             revolutions, the parabola and hyperbolas: x from -4095/4096 to 4 (with whole revolutions to \
+             4095/4096) in steps of 1/4096. Every step has a flight time, and no two neighbouring steps \
+             have times on different sides of the time asked for. This does not say that no transfer \
+             exists: faster transfers than the search reaches may exist (without whole revolutions, \
+             hyperbolas beyond x = 4), and slower ones (ellipses beyond the ends of the range), and two \
+             nearly equal transfers may lie between two steps"
         }
-        12 => "unknown: no transfer was found, but at least one station has no time, so nothing follows",
+        12 => {
+            "nothing was found, but at least one step of the search has no flight time, so a transfer \
+             there would be missed: the search is incomplete, and nothing follows from it"
+        }
         13 => "more than eight crossings were found, and an answer holds at most eight",
         14 => "a velocity of at least one transfer is not finite",
         _ => "not a number of the table",
@@ -68,7 +102,11 @@ mod tests {
     }
 
     #[test]
-    fn the_row_of_11_does_not_rule_out_a_transfer() {
-        assert!(row(11).contains("This does not say that no transfer exists"));
+    fn every_number_says_what_it_does_not_say() {
+        for number in 0..=20 {
+            assert!(short(number).ends_with(NOT_SAID), "{number}");
+            assert!(words(number).to_lowercase().contains(NOT_SAID), "{number}");
+            assert!(format!("refused {number}: {}", short(number)).len() <= 120, "{number}");
+        }
     }
 }

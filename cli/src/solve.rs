@@ -3,19 +3,21 @@
 mod pool;
 mod progress;
 
+use crate::expected;
 use crate::options::Options;
 use crate::stop::{tell, Stop};
-use crate::streams::{Input, Output};
+use crate::streams::Output;
 use crate::wire::SLOT;
 use progress::Progress;
-use std::slice::from_ref;
+
+const HINT: &str = "name a file with -o, or pass them on to 'lambert-cli show'";
 
 /// Runs the command. Returns status 1 if `--strict` is given and a question was refused.
 pub fn run(words: &[String]) -> Result<u8, Stop> {
     let options = Options::read(words, &["--strict"], &["--jobs", "-o"])?;
     let jobs = jobs(options.value("--jobs"))?;
-    let input = Input::open(options.file()?)?;
-    let mut output = Output::open(options.value("-o"), from_ref(&input))?;
+    let input = expected::questions(options.file()?)?;
+    let mut output = Output::open_bytes(options.value("-o"), &[input.id()], HINT)?;
     let whole = input.file.as_ref().filter(|file| file.is_file());
     let mut progress = Progress::new(whole.map(|file| file.len().div_ceil(SLOT as u64)));
     let name = input.name;
@@ -25,7 +27,7 @@ pub fn run(words: &[String]) -> Result<u8, Stop> {
         let reply = match reply {
             Ok(reply) => reply,
             Err(e) => {
-                // The records before a failed read are complete, so they are written.
+                // The records before a failed read are complete, so they are written to standard output. A file is not written.
                 output.flush()?;
                 return Err(Stop::reading(&name, &e));
             }
@@ -35,7 +37,7 @@ pub fn run(words: &[String]) -> Result<u8, Stop> {
         refused += reply.refused;
         progress.show(questions);
     }
-    output.flush()?;
+    output.finish()?;
     drop(progress);
     if options.has("--strict") && refused > 0 {
         tell(&format!("{refused} of {questions} questions refused"));

@@ -1,9 +1,22 @@
 //! Inputs and outputs by name. `-` or no name means standard input or standard output.
 
-use crate::stop::Stop;
+mod beside;
+
+use crate::stop::{tell, Stop};
+use beside::Beside;
 use std::fs::{File, Metadata};
-use std::io::{self, BufWriter, Read, Write};
+use std::io::{self, BufWriter, IsTerminal, Read, Write};
 use std::os::unix::fs::MetadataExt;
+
+/// The device and the inode of a file. Two names of one file have the same.
+#[derive(Clone, Copy, PartialEq)]
+pub struct FileId(u64, u64);
+
+impl FileId {
+    pub fn of(file: &Metadata) -> FileId {
+        FileId(file.dev(), file.ino())
+    }
+}
 
 pub struct Input {
     pub name: String,
@@ -16,8 +29,12 @@ impl Input {
     pub fn open(name: Option<&str>) -> Result<Input, Stop> {
         match name {
             None | Some("-") => {
-                let bytes = Box::new(io::stdin());
-                Ok(Input { name: "standard input".into(), bytes, file: None })
+                if io::stdin().is_terminal() {
+                    tell(
+                        "waiting for standard input, which is a terminal; end it with Ctrl-D, or name a file",
+                    );
+                }
+                Ok(Input { name: "standard input".into(), bytes: Box::new(io::stdin()), file: None })
             }
             Some(name) => {
                 let opened = File::open(name).and_then(|file| Ok((file.metadata()?, file)));
@@ -27,34 +44,58 @@ impl Input {
         }
     }
 
-    pub fn text(&mut self) -> Result<String, Stop> {
-        let mut text = String::new();
-        self.bytes.read_to_string(&mut text).map_err(|e| Stop::reading(&self.name, &e))?;
-        Ok(text)
+    pub fn id(&self) -> Option<FileId> {
+        self.file.as_ref().map(FileId::of)
+    }
+
+    /// Returns the first bytes of the input, at most `most`. They stay part of the input.
+    pub fn first(&mut self, most: usize) -> Result<Vec<u8>, Stop> {
+        let mut first = vec![0; most];
+        let had = crate::wire::read_full(&mut self.bytes, &mut first);
+        first.truncate(had.map_err(|e| Stop::reading(&self.name, &e))?);
+        let rest = std::mem::replace(&mut self.bytes, Box::new(io::empty()));
+        self.bytes = Box::new(io::Cursor::new(first.clone()).chain(rest));
+        Ok(first)
     }
 }
 
-/// An output. The message for a failed write gives its name.
+/// An output. The message for a failed write gives its name. A file appears under its name only when the output is
+/// finished: until then it is written beside, and if the output is dropped before, nothing is left.
 pub struct Output {
     name: String,
     bytes: BufWriter<Box<dyn Write>>,
+    beside: Option<Beside>,
 }
 
 impl Output {
-    /// Opens the output. The caller has opened the inputs before. Fails if the output is one of the inputs, so that no input is
+    /// Opens an output for text. The caller has opened the inputs before and passes what they are, so that no input is
     /// overwritten.
-    pub fn open(name: Option<&str>, inputs: &[Input]) -> Result<Output, Stop> {
-        let (name, bytes): (&str, Box<dyn Write>) = match name {
-            None | Some("-") => ("standard output", Box::new(io::stdout())),
-            Some(name) => {
-                if inputs.iter().any(|input| input.file.as_ref().is_some_and(|file| is_same(file, name))) {
-                    return Stop::said(format!("{name} is the input too, and would be overwritten"));
-                }
-                let file = File::create(name).map_err(|e| Stop::writing(name, &e))?;
-                (name, Box::new(file))
-            }
+    pub fn open(name: Option<&str>, inputs: &[Option<FileId>]) -> Result<Output, Stop> {
+        let Some(name) = name.filter(|name| *name != "-") else {
+            let bytes = BufWriter::new(Box::new(io::stdout()) as Box<dyn Write>);
+            return Ok(Output { name: "standard output".into(), bytes, beside: None });
         };
-        Ok(Output { name: name.into(), bytes: BufWriter::new(bytes) })
+        let present = std::fs::metadata(name).ok();
+        let id = present.as_ref().filter(|file| file.is_file()).map(FileId::of);
+        if id.is_some() && inputs.contains(&id) {
+            return Stop::said(format!("{name} is the input too, and would be overwritten"));
+        }
+        let failed = |e| Stop::writing(name, &e);
+        let (file, beside) = match present {
+            Some(other) if !other.is_file() => (File::create(name).map_err(failed)?, None),
+            _ => Beside::create(name).map(|(file, beside)| (file, Some(beside))).map_err(failed)?,
+        };
+        Ok(Output { name: name.into(), bytes: BufWriter::new(Box::new(file)), beside })
+    }
+
+    /// Opens an output for bytes that are not text. They are not written to a terminal.
+    pub fn open_bytes(name: Option<&str>, inputs: &[Option<FileId>], hint: &str) -> Result<Output, Stop> {
+        if name.is_none_or(|name| name == "-") && io::stdout().is_terminal() {
+            return Stop::said(format!(
+                "standard output is a terminal, and these bytes are not text: {hint}"
+            ));
+        }
+        Output::open(name, inputs)
     }
 
     pub fn put(&mut self, bytes: &[u8]) -> Result<(), Stop> {
@@ -64,9 +105,20 @@ impl Output {
     pub fn flush(&mut self) -> Result<(), Stop> {
         self.bytes.flush().map_err(|e| Stop::writing(&self.name, &e))
     }
+
+    /// Writes out what is left and gives a file its name.
+    pub fn finish(mut self) -> Result<(), Stop> {
+        self.flush()?;
+        match self.beside.take() {
+            None => Ok(()),
+            Some(beside) => beside.finish().map_err(|e| Stop::writing(&self.name, &e)),
+        }
+    }
 }
 
-fn is_same(file: &Metadata, name: &str) -> bool {
-    let other = std::fs::metadata(name);
-    other.is_ok_and(|other| other.is_file() && (other.dev(), other.ino()) == (file.dev(), file.ino()))
+/// Opens an output, writes a text and finishes it.
+pub fn write_text(name: Option<&str>, inputs: &[Option<FileId>], text: &str) -> Result<(), Stop> {
+    let mut output = Output::open(name, inputs)?;
+    output.put(text.as_bytes())?;
+    output.finish()
 }

@@ -26,6 +26,44 @@ pub fn number(value: f64) -> String {
     }
 }
 
+/// Returns a time in seconds as a number in the unit that suits it: s, min, h or d.
+pub fn duration(seconds: f64) -> String {
+    let (size, unit) = match seconds {
+        s if s < 120.0 => (1.0, "s"),
+        s if s < 7_200.0 => (60.0, "min"),
+        s if s < 172_800.0 => (3_600.0, "h"),
+        _ => (86_400.0, "d"),
+    };
+    let rounded = format!("{:.2}", seconds / size);
+    format!("{} {unit}", rounded.trim_end_matches('0').trim_end_matches('.'))
+}
+
+/// The most characters of a text from outside that a message repeats.
+const MOST: usize = 60;
+
+/// Returns a text from outside for a message. If it is long, only its beginning is repeated, and its length is said.
+pub fn shortened(text: &str) -> String {
+    let count = text.chars().count();
+    if count <= MOST {
+        return text.into();
+    }
+    format!("{}... ({count} characters)", text.chars().take(MOST).collect::<String>())
+}
+
+/// Returns a text from outside for a message, in quotes.
+pub fn quoted(text: &str) -> String {
+    let count = text.chars().count();
+    if count <= MOST {
+        return format!("{text:?}");
+    }
+    format!("{:?}... ({count} characters)", text.chars().take(MOST).collect::<String>())
+}
+
+/// Returns "1 record" or "2 records".
+pub fn counted(count: u64, what: &str) -> String {
+    format!("{count} {what}{}", if count == 1 { "" } else { "s" })
+}
+
 /// Breaks words at spaces into lines. Each line after the first begins with the indent. Only a line with a single word can be longer
 /// than `width`.
 pub fn wrapped(words: &str, width: usize, indent: &str) -> Vec<String> {
@@ -52,6 +90,21 @@ mod tests {
     fn numbers_are_short() {
         assert_eq!([0.0, 7000.0, 0.1, 1e300, 2e-9].map(number), ["0", "7000", "0.1", "1e300", "2e-9"]);
         assert_eq!(number(f64::NAN), "NaN");
+    }
+
+    #[test]
+    fn durations_have_a_suitable_unit() {
+        let found = [1.5, 100.0, 1_800.0, 21_600.0, 302_400.0, 5_000.0].map(duration);
+        assert_eq!(found, ["1.5 s", "100 s", "30 min", "6 h", "3.5 d", "83.33 min"]);
+    }
+
+    #[test]
+    fn long_texts_are_shortened() {
+        assert_eq!((shortened("ab"), quoted("a\"")), ("ab".into(), "\"a\\\"\"".into()));
+        assert_eq!(shortened(&"é".repeat(60)), "é".repeat(60));
+        assert_eq!(shortened(&"é".repeat(61)), format!("{}... (61 characters)", "é".repeat(60)));
+        assert_eq!(quoted(&"x".repeat(99)), format!("\"{}\"... (99 characters)", "x".repeat(60)));
+        assert_eq!((counted(1, "record"), counted(0, "record")), ("1 record".into(), "0 records".into()));
     }
 
     #[test]

@@ -1,55 +1,96 @@
-//! The columns of a CSV file that has a header. The message for a mistake gives its line and, if there is
-//! one, its column.
+//! The columns of a CSV file that has a header. The message for a mistake gives the file, the line and, if there is one,
+//! the column.
 
 use super::Row;
 use crate::mistakes::Mistakes;
+use crate::words::quoted;
+
+/// A column that a file may have. Its header is the name, or the name with the unit.
+#[derive(Clone, Copy)]
+pub struct Column {
+    pub name: &'static str,
+    pub unit: Option<&'static str>,
+}
+
+impl Column {
+    pub const fn of(name: &'static str) -> Column {
+        Column { name, unit: None }
+    }
+
+    pub const fn with_unit(name: &'static str, unit: &'static str) -> Column {
+        Column { name, unit: Some(unit) }
+    }
+
+    fn is(&self, header: &str) -> bool {
+        header == self.name || self.unit.is_some_and(|unit| header == format!("{}_{unit}", self.name))
+    }
+}
 
 pub struct Columns {
-    names: Vec<&'static str>,
+    file: String,
+    /// The names in the order of the header. A column that is left out has none.
+    names: Vec<Option<&'static str>>,
 }
 
 impl Columns {
-    /// Returns the columns in the order of the header, and records its mistakes. A header may have the
-    /// columns in `known`, in any order, and must have the first `needed` of them. `what` says in the
-    /// messages what a row holds.
+    /// Returns the columns of a file in the order of its header, before the header was read.
+    pub fn of_file(file: &str) -> Columns {
+        Columns { file: file.into(), names: Vec::new() }
+    }
+
+    /// Reads the header, and records its mistakes. A header may have the columns in `known`, in any order, and must
+    /// have the first `needed` of them. Other columns are left out if `ignore` is true, and otherwise a mistake.
+    /// `what` says in the messages what a row holds.
     pub fn read(
+        mut self,
         header: &Row,
-        known: &[&'static str],
-        needed: usize,
+        (known, needed): (&[Column], usize),
+        ignore: bool,
         what: &str,
         mistakes: &mut Mistakes,
     ) -> Columns {
-        let mut names = Vec::new();
+        let file = &self.file;
         for name in header.fields.iter().map(|name| name.trim()) {
-            match known.iter().find(|column| **column == name) {
-                None => mistakes.list.push(format!("line 1, column {name:?}: is not a column of {what}")),
-                Some(column) if names.contains(column) => {
-                    mistakes.list.push(format!("line 1, column {name}: is there twice"));
-                }
-                Some(column) => names.push(*column),
+            let column = known.iter().find(|column| column.is(name)).map(|column| column.name);
+            if column.is_none() && !ignore {
+                let hint = "--ignore-extra leaves such columns out";
+                let told = format!("{}: is not a column of {what}; {hint}", quoted(name));
+                mistakes.push(format!("{file}: line 1, column {told}"));
             }
+            if column.is_some() && self.names.contains(&column) {
+                mistakes.push(format!("{file}: line 1, column {name}: is there twice"));
+            }
+            self.names.push(column);
         }
-        let missing = known[..needed].iter().filter(|column| !names.contains(column));
-        mistakes.list.extend(missing.map(|column| format!("line 1, column {column}: is missing")));
-        Columns { names }
+        for column in known[..needed].iter().filter(|column| !self.has(column.name)) {
+            mistakes.push(format!("{}: line 1, column {}: is missing", self.file, column.name));
+        }
+        self
     }
 
     /// Reports whether a row has a field for each column, and records a mistake if it has not.
     pub fn fit(&self, row: &Row, mistakes: &mut Mistakes) -> bool {
-        let (line, has, header) = (row.line, row.fields.len(), self.names.len());
+        let (has, header) = (row.fields.len(), self.names.len());
         if has != header {
             let s = if has == 1 { "" } else { "s" };
-            mistakes.list.push(format!("line {line}: has {has} field{s}, but the header has {header}"));
+            let words = format!("has {has} field{s}, but the header has {header}");
+            mistakes.push(format!("{}: line {}: {words}", self.file, row.line));
         }
         has == header
     }
 
-    pub fn has(&self, name: &str) -> bool {
-        self.names.contains(&name)
+    /// Returns the words for the place of a field.
+    pub fn place(&self, row: &Row, name: &str) -> String {
+        format!("{}: line {}, column {name}", self.file, row.line)
     }
 
-    /// Returns the field of a row in a column, or `None` if the file does not have the column.
+    pub fn has(&self, name: &str) -> bool {
+        self.names.contains(&Some(name))
+    }
+
+    /// Returns the field of a row in a column, or `None` if there is none.
     pub fn cell<'a>(&self, row: &'a Row, name: &str) -> Option<&'a str> {
-        self.names.iter().position(|column| *column == name).map(|at| row.fields[at].as_str())
+        let at = self.names.iter().position(|column| *column == Some(name))?;
+        row.fields.get(at).map(String::as_str)
     }
 }

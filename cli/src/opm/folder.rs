@@ -5,9 +5,10 @@ use super::message::OrbitMessage;
 use super::request::Place;
 use crate::mistakes::Mistakes;
 use crate::stop::{tell, Stop};
+use crate::streams::Output;
 use std::collections::BTreeMap;
-use std::fs::{self, OpenOptions};
-use std::io::{self, Write};
+use std::fs;
+use std::io;
 use std::path::{Path, PathBuf};
 
 /// The files that are to be written, each with its bytes and the place in the list that asks for it.
@@ -15,17 +16,17 @@ pub type Files = BTreeMap<PathBuf, (Place, Vec<u8>)>;
 
 /// Adds an orbit message under its name in the folder. Equal orbit messages are one file. If an earlier line
 /// has a different one of that name, records a mistake.
-pub fn add(files: &mut Files, folder: &str, place: Place, message: OrbitMessage, mistakes: &mut Mistakes) {
+pub fn add(files: &mut Files, folder: &str, place: &Place, message: OrbitMessage, mistakes: &mut Mistakes) {
     let OrbitMessage { job, revision, entry, bytes } = message;
     let path = Path::new(folder).join(format!("{job}-{revision}-{entry}.opm"));
     match files.get(&path) {
         None => {
-            files.insert(path, (place, bytes));
+            files.insert(path, (place.clone(), bytes));
         }
         Some((_, same)) if *same == bytes => {}
         Some(_) => {
             let words = format!("asks for {}, as an earlier line does, but with other texts", path.display());
-            mistakes.list.push(place.say(words));
+            mistakes.push(place.say(words));
         }
     }
 }
@@ -41,33 +42,28 @@ pub fn leave_out_present(files: &mut Files, mistakes: &mut Mistakes) -> usize {
         found => {
             let words =
                 found.map_or_else(|e| e.to_string(), |_| "it is there already, with other bytes".into());
-            mistakes.list.push(place.say(format!("cannot write {}: {words}", path.display())));
+            mistakes.push(place.say(format!("cannot write {}: {words}", path.display())));
             true
         }
     });
     all - files.len()
 }
 
-/// Writes the files, and makes the folder if it is missing. If a write fails, removes the unfinished file and
-/// the files written before it.
+/// Writes the files, and makes the folder if it is missing. If a write fails, removes the files written before it.
 pub fn write(folder: &str, files: &Files, present: usize) -> Result<(), Stop> {
     fs::create_dir_all(folder).map_err(|e| Stop::Said(format!("cannot make the folder {folder}: {e}")))?;
     let mut written = Vec::new();
     for (path, (_, bytes)) in files {
-        let created = OpenOptions::new().write(true).create_new(true).open(path);
-        let failed = created.and_then(|mut file| {
-            written.push(path);
-            file.write_all(bytes)
-        });
-        if let Err(e) = failed {
+        if let Err(Stop::Said(words)) = write_one(path, bytes) {
             let left = written.iter().filter(|path| fs::remove_file(path).is_err()).count();
             let rest = match left {
                 0 => "no orbit message is written".into(),
                 1 => "1 file is left".into(),
                 _ => format!("{left} files are left"),
             };
-            return Stop::said(format!("cannot write {}: {e}; {rest}", path.display()));
+            return Stop::said(format!("{words}; {rest}"));
         }
+        written.push(path);
     }
     let s = if files.len() == 1 { "" } else { "s" };
     let there = match present {
@@ -77,4 +73,11 @@ pub fn write(folder: &str, files: &Files, present: usize) -> Result<(), Stop> {
     };
     tell(&format!("{folder}: {} orbit message{s} written{there}", files.len()));
     Ok(())
+}
+
+fn write_one(path: &Path, bytes: &[u8]) -> Result<(), Stop> {
+    let name = path.to_string_lossy();
+    let mut output = Output::open(Some(&name), &[])?;
+    output.put(bytes)?;
+    output.finish()
 }

@@ -1,8 +1,8 @@
 //! Makes an orbit message. The proved library writes it or refuses it; this file finds the record and the
 //! question, and puts each refusal into words.
 
-use super::outcomes::{words_of, Key};
-use super::request::Request;
+use super::outcomes::words_of;
+use super::request::{Key, Request};
 use super::sources::Sources;
 use super::texts;
 use crate::proved::orbit_message;

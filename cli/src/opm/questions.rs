@@ -1,7 +1,8 @@
 //! The questions of an input by job and revision, in any order. Equal questions of a job and revision count
-//! as one.
+//! as one. Only the questions of the given outcomes are kept.
 
-use super::outcomes::{words_of, Key};
+use super::outcomes::{words_of, Outcomes};
+use super::request::Key;
 use crate::stop::Stop;
 use crate::streams::Input;
 use crate::wire::{Question, Slots};
@@ -18,7 +19,7 @@ pub struct Questions {
 }
 
 impl Questions {
-    pub fn read(input: &mut Input) -> Result<Questions, Stop> {
+    pub fn read(input: &mut Input, outcomes: &Outcomes) -> Result<Questions, Stop> {
         let Input { name, bytes, .. } = input;
         let mut slots = Slots::new(BufReader::new(bytes));
         let (mut others, mut by_key) = (0, BTreeMap::new());
@@ -28,6 +29,9 @@ impl Questions {
                 continue;
             };
             let key = (question.job, question.revision);
+            if !outcomes.has(key) {
+                continue;
+            }
             let (first, conflict) = by_key.entry(key).or_insert_with(|| (question, false));
             // The bytes are compared, since a NaN is not equal to itself.
             *conflict |= first.bytes() != slot;

@@ -3,7 +3,7 @@
 use crate::options::Options;
 use crate::proved::{orbit_state, LONGEST_ORBIT_MESSAGE};
 use crate::stop::Stop;
-use crate::streams::{Input, Output};
+use crate::streams::{write_text, Input};
 use std::io::Read;
 
 /// The keys of the numbers, with their units.
@@ -29,10 +29,7 @@ impl Decimal {
 
 pub fn run(options: &Options) -> Result<u8, Stop> {
     let state = state(&mut Input::open(options.file()?)?)?;
-    let mut output = Output::open(None, &[])?;
-    let text = if options.has("--json") { json(&state) } else { table(&state) };
-    output.put(text.as_bytes())?;
-    output.flush()?;
+    write_text(None, &[], &if options.has("--json") { json(&state) } else { table(&state) })?;
     Ok(0)
 }
 

@@ -3,6 +3,8 @@
 
 use super::outcomes::Outcomes;
 use super::questions::Questions;
+use super::request::Request;
+use crate::expected;
 use crate::options::Options;
 use crate::stop::Stop;
 use crate::streams::Input;
@@ -13,8 +15,11 @@ pub struct Sources {
 }
 
 impl Sources {
-    pub fn read([records, questions]: &mut [Input; 2]) -> Result<Sources, Stop> {
-        Ok(Sources { outcomes: Outcomes::read(records)?, questions: Questions::read(questions)? })
+    /// Reads what the requests need.
+    pub fn read([records, questions]: &mut [Input; 2], requests: &[Request]) -> Result<Sources, Stop> {
+        let outcomes = Outcomes::read(records, requests)?;
+        let questions = Questions::read(questions, &outcomes)?;
+        Ok(Sources { outcomes, questions })
     }
 }
 
@@ -28,5 +33,5 @@ pub fn open(options: &Options) -> Result<[Input; 2], Stop> {
     if let [(first, _), (second, _), ..] = standard[..] {
         return Stop::said(format!("{first} and {second} cannot both come from standard input"));
     }
-    Ok([Input::open(Some(records))?, Input::open(Some(questions))?])
+    Ok([expected::records(Some(records))?, expected::questions(Some(questions))?])
 }

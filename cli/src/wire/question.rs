@@ -5,8 +5,6 @@ use std::io::{self, Read};
 
 /// The size of a question in bytes.
 pub const SLOT: usize = 82;
-const LENGTH: u32 = 78;
-const KIND: u16 = 1;
 
 #[derive(Clone, Debug, PartialEq)]
 pub struct Question {
@@ -21,10 +19,13 @@ pub struct Question {
 }
 
 impl Question {
+    pub const LENGTH: u32 = 78;
+    pub const KIND: u16 = 1;
+
     pub fn bytes(&self) -> Vec<u8> {
         let mut slot = Vec::with_capacity(SLOT);
-        slot.extend(LENGTH.to_le_bytes());
-        slot.extend(KIND.to_le_bytes());
+        slot.extend(Self::LENGTH.to_le_bytes());
+        slot.extend(Self::KIND.to_le_bytes());
         slot.extend(self.job.to_le_bytes());
         slot.extend(self.revision.to_le_bytes());
         slot.extend(self.revolutions.to_le_bytes());
@@ -39,6 +40,8 @@ impl Question {
         if slot.len() != SLOT {
             return Err((slot.len(), format!("cut short: {} of {SLOT} bytes", slot.len())));
         }
+        const LENGTH: u32 = Question::LENGTH;
+        const KIND: u16 = Question::KIND;
         let fault = |at, words: String| Err((at, words));
         match (u32_at(slot, 0), u16_at(slot, 4), u32_at(slot, 6), slot[16], slot[17]) {
             (LENGTH, KIND, 1.., 0 | 1, 0) => Ok(Question::of(slot)),
