@@ -16,6 +16,8 @@ mod opm;
 mod options;
 mod orbit;
 mod plot;
+#[allow(dead_code)]
+mod propagation;
 #[allow(unsafe_code)]
 mod proved;
 mod refusal;
