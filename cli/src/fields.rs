@@ -5,7 +5,7 @@ use crate::words::{quoted, shortened};
 
 mod bodies;
 
-pub use bodies::{body_of, Body, BODIES};
+pub use bodies::{body_of, BODIES};
 
 const UNITS: [(&str, f64); 4] = [("s", 1.0), ("min", 60.0), ("h", 3_600.0), ("d", 86_400.0)];
 

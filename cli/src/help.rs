@@ -2,6 +2,7 @@
 //! `cli/run` can print them before the program is built.
 
 pub const WHOLE: &str = include_str!("../help/whole.txt");
+pub const ANSWER: &str = include_str!("../help/answer.txt");
 pub const ASK: &str = include_str!("../help/ask.txt");
 pub const SOLVE: &str = include_str!("../help/solve.txt");
 pub const SHOW: &str = include_str!("../help/show.txt");

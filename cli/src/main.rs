@@ -2,7 +2,7 @@
 //! not compute transfers, change boards or write orbit messages itself: the functions of `proved` do that.
 #![deny(unsafe_code)]
 
-#[allow(dead_code)]
+mod answer;
 mod arc;
 mod ask;
 mod board;
@@ -16,7 +16,6 @@ mod opm;
 mod options;
 mod orbit;
 mod plot;
-#[allow(dead_code)]
 mod propagation;
 #[allow(unsafe_code)]
 mod proved;
@@ -38,7 +37,8 @@ use stop::Stop;
 /// The name of a command, its help text and the function that runs it.
 type Command = (&'static str, &'static str, fn(&[String]) -> Result<u8, Stop>);
 
-const COMMANDS: [Command; 7] = [
+const COMMANDS: [Command; 8] = [
+    ("answer", help::ANSWER, answer::run),
     ("ask", help::ASK, ask::run),
     ("solve", help::SOLVE, solve::run),
     ("show", help::SHOW, show::run),

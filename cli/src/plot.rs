@@ -32,7 +32,8 @@ pub fn run(words: &[String]) -> Result<u8, Stop> {
     Ok(0)
 }
 
-fn record(slot: &[u8]) -> Result<Record, Stop> {
+/// Returns the solver's record of a question.
+pub fn record(slot: &[u8]) -> Result<Record, Stop> {
     match Records::new(&record_of(slot)[..]).next() {
         Ok(Ok(Some(record))) => Ok(record),
         _ => Stop::said("the solver's record cannot be read"),

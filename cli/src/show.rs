@@ -2,63 +2,71 @@
 
 mod circular;
 mod comma;
+mod detail;
+mod facts;
+mod item;
 mod json;
-mod pairs;
+mod layout;
+mod numbers;
+pub mod pairs;
+pub mod printer;
+pub mod refused;
 pub mod table;
+pub mod view;
 
+use crate::expected;
 use crate::options::Options;
 use crate::stop::Stop;
 use crate::streams::{Input, Output};
-use crate::wire::{Record, Records};
-use pairs::{Asked, Pairs};
+use crate::wire::Records;
+use pairs::Pairs;
+use printer::Printer;
 use std::io::BufReader;
-
-/// A form of output: the text before the first record, and the text of each record.
-struct Form {
-    head: fn(bool) -> String,
-    record: fn(&Record, &Asked) -> String,
-}
+use table::Names;
+use view::View;
 
 pub fn run(words: &[String]) -> Result<u8, Stop> {
-    let options = Options::read(words, &["--json", "--csv"], &["--questions"])?;
-    let form = match (options.has("--json"), options.has("--csv")) {
-        (true, true) => return Stop::said("--json and --csv do not go together"),
-        (true, false) => Form { head: |_| String::new(), record: json::record },
-        (false, true) => Form { head: comma::head, record: comma::record },
-        (false, false) => Form { head: |_| table::HEAD.into(), record: table::record },
-    };
+    let options = Options::read(words, &view::FLAGS, &[&view::VALUED[..], &["--questions"]].concat())?;
+    let view = View::read(&options)?;
     let (file, questions) = (options.file()?, options.value("--questions"));
     if questions == Some("-") && matches!(file, None | Some("-")) {
         return Stop::said("records and questions cannot both come from standard input");
     }
-    let input = Input::open(file)?;
-    let mut pairs = Pairs::open(questions)?;
-    show(input, &mut pairs, &form)?;
+    if questions.is_none() && options.has("--radius") {
+        return Stop::said("--radius needs the questions: --questions FILE");
+    }
+    let input = expected::records(file)?;
+    let (mut pairs, asked) = Pairs::open(questions)?;
+    let output = Output::open(options.value("-o"), &[input.id(), asked])?;
+    show(input, &mut pairs, Printer::new(view, Names::JobAndRevision, questions.is_some()), output)?;
     Ok(0)
 }
 
-fn show(input: Input, pairs: &mut Pairs, form: &Form) -> Result<(), Stop> {
+fn show(input: Input, pairs: &mut Pairs, mut printer: Printer, mut output: Output) -> Result<(), Stop> {
     let name = input.name;
-    let mut output = Output::open(None, &[])?;
     let mut records = Records::new(BufReader::new(input.bytes));
-    let mut head = (form.head)(pairs.at_hand());
-    let told = loop {
+    let mut head = printer.head();
+    let fault = loop {
         let next = match records.next() {
-            Err(e) => break Err(Stop::reading(&name, &e)),
-            Ok(Err(fault)) => break Stop::said(fault.located(&name, "record")),
+            Err(e) => break Stop::reading(&name, &e),
+            Ok(Err(fault)) => break Stop::Said(fault.located(&name, "record")),
             Ok(Ok(next)) => next,
         };
-        match pairs.next(next.as_ref(), records.number) {
-            Err(stop) => break Err(stop),
-            Ok(asked) => match &next {
-                None => break output.put(head.as_bytes()),
-                Some(record) => {
-                    output.put((std::mem::take(&mut head) + &(form.record)(record, &asked)).as_bytes())?;
-                }
-            },
+        match (pairs.next(next.as_ref(), records.number), &next) {
+            (Err(stop), _) => break stop,
+            (Ok(asked), Some(record)) => {
+                output.put((std::mem::take(&mut head) + &printer.record(record, &asked)).as_bytes())?;
+            }
+            (Ok(_), None) => {
+                output.put((head + &printer.foot()).as_bytes())?;
+                return output.finish();
+            }
         }
     };
-    // Writes the records before the fault to standard output before the message for the fault is printed.
+    // The records before the fault go to standard output, with a line that says that they are not all. A file is not written.
+    if let (Stop::Said(words), true) = (&fault, head.is_empty()) {
+        output.put(printer.cut(words).as_bytes())?;
+    }
     output.flush()?;
-    told
+    Err(fault)
 }

@@ -44,7 +44,7 @@ pub fn words(question: &Question) -> Option<String> {
         (Side::NoneFaster(_), true) => format!(
             "Here no shape searched is as fast as the time asked for, {asked}. With whole \
              revolutions there is a least time, so more time or fewer revolutions may help. If the time \
-             asked for is barely above the least time, two transfers lie between two steps"
+             asked for is barely above the least time, two transfers may lie between two steps"
         ),
         (Side::AllFaster(_), _) => format!(
             "Here the time asked for, {asked}, is above the time of every shape searched. So a transfer does \

@@ -4,8 +4,8 @@
 use crate::orbit::size;
 use crate::wire::{Entry, Question};
 
-/// The names of both changes in JSON and CSV. The changes are in km/s.
-pub const NAMES: [&str; 2] = ["dv1_circular", "dv2_circular"];
+/// The names of both changes in JSON and CSV.
+pub const NAMES: [&str; 2] = ["dv1_circular_km_s", "dv2_circular_km_s"];
 
 /// Returns the sizes of both changes: at the departure from r1 and at the arrival at r2.
 pub fn changes(question: &Question, entry: &Entry) -> [f64; 2] {

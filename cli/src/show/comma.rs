@@ -1,39 +1,45 @@
 //! Records as CSV: a line for each transfer or refusal. Fields that do not apply are empty.
 
-use super::circular::{changes, NAMES};
+use super::circular::NAMES;
+use super::facts::Facts;
+use super::item::{Item, Transfer};
 use super::pairs::Asked;
+use super::refused;
 use crate::csv::line;
 use crate::orbit::{end, kind, size, x_of};
-use crate::refusal;
-use crate::wire::{Entry, Outcome, Question, Record};
+use crate::wire::{Outcome, Question};
 
 const RECORD: &str = "job,revision,outcome,number,meaning,transfer,transfers";
-const TRANSFER: &str =
-    "orbit,x,k,end,k_low,halvings,width_k,width_x,v1_x,v1_y,v1_z,v1_size,v2_x,v2_y,v2_z,v2_size";
-const QUESTION: &str = "r1_x,r1_y,r1_z,r2_x,r2_y,r2_z,mu,time,revolutions,way";
+const TRANSFER: &str = "orbit,x,k,end,k_low,k_high,halvings,width_k,width_x,\
+                        v1_x_km_s,v1_y_km_s,v1_z_km_s,v1_size_km_s,v2_x_km_s,v2_y_km_s,v2_z_km_s,v2_size_km_s";
+const QUESTION: &str = "r1_x_km,r1_y_km,r1_z_km,r2_x_km,r2_y_km,r2_z_km,mu_km3_s2,time_s,revolutions,way";
+/// What is computed for display, beside the velocity changes: it is tested, not proved.
+const TESTED: &str =
+    "perigee_km,apogee_km,eccentricity,inclination_deg,lowest_km,radius_km,below_surface,miss_r2_m";
 
 pub fn head(with_questions: bool) -> String {
-    let more = if with_questions { format!(",{QUESTION},{}", NAMES.join(",")) } else { String::new() };
+    let more =
+        if with_questions { format!(",{QUESTION},{},{TESTED}", NAMES.join(",")) } else { String::new() };
     format!("{RECORD},{TRANSFER}{more}\n")
 }
 
-pub fn record(record: &Record, asked: &Asked) -> String {
+pub fn item(item: &Item) -> String {
+    let record = item.record;
     let own = [record.job.to_string(), record.revision.to_string()];
-    match &record.outcome {
+    match record.outcome {
         Outcome::Refused(number) => {
-            let meaning = refusal::words(*number);
+            let meaning = refused::words(number, item.question());
             let said = ["refused".into(), number.to_string(), meaning, String::new(), String::new()];
-            line(&[&own[..], &said, &blanks(TRANSFER), &asked_fields(asked, None)].concat())
+            line(&[&own[..], &said, &blanks(TRANSFER), &asked_fields(item.asked, None)].concat())
         }
-        Outcome::Answered(entries) => {
-            let count = entries.len().to_string();
-            let text = entries.iter().enumerate().map(|(i, entry)| {
-                let which = (i + 1).to_string();
-                let said = ["answered".into(), String::new(), String::new(), which, count.clone()];
-                let asked = asked_fields(asked, Some(entry));
-                line(&[&own[..], &said, &transfer_fields(entry), &asked].concat())
+        Outcome::Answered(_) => {
+            let lines = item.transfers().map(|transfer| {
+                let (number, count) = (transfer.number.to_string(), transfer.count.to_string());
+                let said = ["answered".into(), String::new(), String::new(), number, count];
+                let asked = asked_fields(item.asked, transfer.facts);
+                line(&[&own[..], &said, &transfer_fields(&transfer), &asked].concat())
             });
-            text.collect()
+            lines.collect()
         }
     }
 }
@@ -43,11 +49,12 @@ fn blanks(columns: &str) -> Vec<String> {
     columns.split(',').map(|_| String::new()).collect()
 }
 
-fn transfer_fields(entry: &Entry) -> Vec<String> {
+fn transfer_fields(transfer: &Transfer) -> Vec<String> {
+    let entry = transfer.entry;
     let (k, width) = (entry.chosen(), entry.width());
     let mut fields = vec![kind(entry).into(), float(x_of(k)), k.to_string(), end(entry).into()];
-    fields.extend([entry.low.to_string(), entry.halvings.to_string()]);
-    fields.extend([width.to_string(), float(x_of(width))]);
+    fields.extend([entry.low, entry.low + width].map(|k| k.to_string()));
+    fields.extend([entry.halvings.to_string(), width.to_string(), float(x_of(width))]);
     for v in [entry.v1, entry.v2] {
         fields.extend(v.map(float));
         fields.push(float(size(v)));
@@ -55,16 +62,31 @@ fn transfer_fields(entry: &Entry) -> Vec<String> {
     fields
 }
 
-/// Returns the fields of the question, and for a transfer the velocity changes, which need the question.
-fn asked_fields(asked: &Asked, entry: Option<&Entry>) -> Vec<String> {
-    let (question, changes) = match asked {
+/// Returns the fields of the question, and for a transfer the facts that need the question.
+fn asked_fields(asked: &Asked, facts: Option<&Facts>) -> Vec<String> {
+    let question = match asked {
         Asked::Unknown => return Vec::new(),
-        Asked::NoQuestion => (blanks(QUESTION), None),
-        Asked::Known(question) => {
-            (question_fields(question), entry.map(|entry| changes(question, entry).map(float)))
-        }
+        Asked::NoQuestion => blanks(QUESTION),
+        Asked::Known(question) => question_fields(question),
     };
-    [question, changes.unwrap_or_default().into()].concat()
+    let tested = facts.map_or_else(|| [NAMES.map(|_| String::new()).into(), blanks(TESTED)].concat(), tested);
+    [question, tested].concat()
+}
+
+fn tested(facts: &Facts) -> Vec<String> {
+    let or_blank = |value: Option<f64>| value.map_or(String::new(), float);
+    let arc = &facts.arc;
+    let below = facts.surface.map_or(String::new(), |_| facts.passed().is_some().to_string());
+    let mut fields = Vec::from(facts.changes.map(float));
+    fields.extend([
+        float(arc.perigee),
+        or_blank(arc.apogee),
+        float(arc.eccentricity),
+        float(arc.inclination),
+    ]);
+    fields.extend([float(arc.lowest()), or_blank(facts.surface.map(|surface| surface.radius)), below]);
+    fields.push(or_blank(facts.miss));
+    fields
 }
 
 fn question_fields(question: &Question) -> Vec<String> {
@@ -81,6 +103,7 @@ fn float(value: f64) -> String {
 #[cfg(test)]
 mod tests {
     use super::*;
+    use crate::wire::{Entry, Record};
 
     #[test]
     fn every_line_has_the_columns_of_the_header() {
@@ -90,7 +113,7 @@ mod tests {
         let refusals = (1..=14).map(|n| Record { job: 1, revision: 2, outcome: Outcome::Refused(n) });
         let records: Vec<Record> = refusals.chain([answer]).collect();
         for asked in [Asked::Unknown, Asked::NoQuestion, Asked::Known(question)] {
-            let lines: String = records.iter().map(|one| record(one, &asked)).collect();
+            let lines: String = records.iter().map(|one| item(&Item::new(one, &asked, None))).collect();
             let text = head(!matches!(asked, Asked::Unknown)) + &lines;
             let mut rows = crate::csv::Rows::new(text.as_bytes());
             let mut next = || rows.next().expect("good rows").map(|row| row.fields.len());

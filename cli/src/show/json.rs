@@ -1,34 +1,40 @@
 //! A record as a JSON object on one line. Floats are written with enough digits to read back as the same bits.
 
-use super::circular::{changes, NAMES};
+use super::circular::NAMES;
+use super::facts::Facts;
+use super::item::{Item, Transfer};
 use super::pairs::Asked;
+use super::refused;
 use crate::orbit::{end, kind, size, x_of};
-use crate::refusal;
-use crate::wire::{Entry, Outcome, Question, Record};
+use crate::wire::{Outcome, Question};
 
-pub fn record(record: &Record, asked: &Asked) -> String {
-    let mut text = format!("{{\"job\":{},\"revision\":{}", record.job, record.revision);
-    match &record.outcome {
-        Outcome::Refused(number) => {
-            text += &format!(
-                ",\"outcome\":\"refused\",\"number\":{number},\"meaning\":{}",
-                string(&refusal::words(*number))
-            );
-        }
-        Outcome::Answered(entries) => {
-            let entries: Vec<String> = entries.iter().map(|entry| transfer(entry, asked)).collect();
-            text += &format!(",\"outcome\":\"answered\",\"transfers\":[{}]", entries.join(","));
+pub fn item(item: &Item) -> String {
+    let record = item.record;
+    let mut fields = vec![("job", record.job.to_string()), ("revision", record.revision.to_string())];
+    match record.outcome {
+        Outcome::Refused(number) => fields.extend([
+            ("outcome", string("refused")),
+            ("number", number.to_string()),
+            ("meaning", string(&refused::words(number, item.question()))),
+        ]),
+        Outcome::Answered(_) => {
+            let transfers: Vec<String> = item.transfers().map(|one| transfer(&one)).collect();
+            fields.extend([
+                ("outcome", string("answered")),
+                ("transfers", format!("[{}]", transfers.join(","))),
+            ]);
         }
     }
-    match asked {
+    match item.asked {
         Asked::Unknown => {}
-        Asked::NoQuestion => text += ",\"question\":null",
-        Asked::Known(question) => text += &format!(",\"question\":{}", question_of(question)),
+        Asked::NoQuestion => fields.push(("question", "null".into())),
+        Asked::Known(question) => fields.push(("question", question_of(question))),
     }
-    text + "}\n"
+    object(&fields) + "\n"
 }
 
-fn transfer(entry: &Entry, asked: &Asked) -> String {
+fn transfer(transfer: &Transfer) -> String {
+    let entry = transfer.entry;
     let (k, width) = (entry.chosen(), entry.width());
     let mut fields = vec![
         ("orbit", string(kind(entry))),
@@ -40,23 +46,39 @@ fn transfer(entry: &Entry, asked: &Asked) -> String {
         ("halvings", entry.halvings.to_string()),
         ("width_k", width.to_string()),
         ("width_x", float(x_of(width))),
-        ("v1", list(entry.v1)),
-        ("v1_size", float(size(entry.v1))),
-        ("v2", list(entry.v2)),
-        ("v2_size", float(size(entry.v2))),
+        ("v1_km_s", list(entry.v1)),
+        ("v1_size_km_s", float(size(entry.v1))),
+        ("v2_km_s", list(entry.v2)),
+        ("v2_size_km_s", float(size(entry.v2))),
     ];
-    if let Asked::Known(question) = asked {
-        fields.extend(NAMES.into_iter().zip(changes(question, entry).map(float)));
-    }
+    fields.extend(transfer.facts.map(|facts| ("tested_not_proved", tested(facts))));
+    object(&fields)
+}
+
+/// Returns what is computed for display: it is tested, not proved.
+fn tested(facts: &Facts) -> String {
+    let or_null = |value: Option<f64>| value.map_or("null".into(), float);
+    let arc = &facts.arc;
+    let mut fields: Vec<(&str, String)> = NAMES.into_iter().zip(facts.changes.map(float)).collect();
+    fields.extend([
+        ("perigee_km", float(arc.perigee)),
+        ("apogee_km", or_null(arc.apogee)),
+        ("eccentricity", float(arc.eccentricity)),
+        ("inclination_deg", float(arc.inclination)),
+        ("lowest_km", float(arc.lowest())),
+        ("radius_km", or_null(facts.surface.map(|surface| surface.radius))),
+        ("below_surface", facts.surface.map_or("null".into(), |_| facts.passed().is_some().to_string())),
+        ("miss_r2_m", or_null(facts.miss)),
+    ]);
     object(&fields)
 }
 
 fn question_of(question: &Question) -> String {
     object(&[
-        ("r1", list(question.r1)),
-        ("r2", list(question.r2)),
-        ("mu", float(question.mu)),
-        ("time", float(question.time)),
+        ("r1_km", list(question.r1)),
+        ("r2_km", list(question.r2)),
+        ("mu_km3_s2", float(question.mu)),
+        ("time_s", float(question.time)),
         ("revolutions", question.revolutions.to_string()),
         ("way", string(question.way())),
     ])

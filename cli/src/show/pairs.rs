@@ -1,7 +1,8 @@
 //! Finds the question of each record: the one at the same position. Its job and revision must be those of the record.
 
+use crate::expected;
 use crate::stop::Stop;
-use crate::streams::Input;
+use crate::streams::FileId;
 use crate::wire::{Outcome, Question, Record, Slots};
 use std::io::{BufReader, Read};
 
@@ -21,14 +22,12 @@ pub struct Pairs {
 }
 
 impl Pairs {
-    pub fn open(name: Option<&str>) -> Result<Pairs, Stop> {
-        let Some(name) = name else { return Ok(Pairs { questions: None }) };
-        let input = Input::open(Some(name))?;
-        Ok(Pairs { questions: Some((input.name, Slots::new(BufReader::new(input.bytes)))) })
-    }
-
-    pub fn at_hand(&self) -> bool {
-        self.questions.is_some()
+    /// Opens the questions, if a name is given. Returns which file they are too.
+    pub fn open(name: Option<&str>) -> Result<(Pairs, Option<FileId>), Stop> {
+        let Some(name) = name else { return Ok((Pairs { questions: None }, None)) };
+        let input = expected::questions(Some(name))?;
+        let id = input.id();
+        Ok((Pairs { questions: Some((input.name, Slots::new(BufReader::new(input.bytes)))) }, id))
     }
 
     /// Returns the question of the next record, whose position is `number`. After the last record the caller passes `None`; then the

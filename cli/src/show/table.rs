@@ -1,92 +1,158 @@
-//! Records as a table. The first line of a record has its job and revision. A transfer has two lines, for v1 and v2, and a third
-//! line if the questions were given.
+//! Records as a table for a desk: a line for each transfer or refusal, what has to be known about it below, and a
+//! summary at the end.
 
-use super::circular::changes;
+use super::facts::Facts;
+use super::item::{Item, Transfer};
+use super::layout::{number, words, Layout};
+use super::numbers::{distance, miss, speed};
 use super::pairs::Asked;
-use crate::orbit::{end, kind, size, x_of};
-use crate::rows::{refused, row, speed, INDENT};
-use crate::wire::{Entry, Outcome, Record};
-use crate::words;
+use super::view::View;
+use super::{detail, refused};
+use crate::orbit::{kind, size};
+use crate::terminal::Mark;
+use crate::wire::{Entry, Outcome};
+use crate::words::wrapped;
 
-pub const HEAD: &str = "       job   rev  transfer  orbit      x of chosen end  end    width k    width x  \
-    km/s          x            y            z         size\n";
-/// The position in `HEAD` at which the columns of a transfer begin.
-const BEFORE_TRANSFER: usize = 18;
+/// What the first two columns name a record by.
+#[derive(Clone, Copy, PartialEq)]
+pub enum Names {
+    JobAndRevision,
+    /// For questions that have no job of their own.
+    WayAndRevolutions,
+}
 
-pub fn record(record: &Record, asked: &Asked) -> String {
-    let mut lines = Vec::new();
-    match asked {
-        Asked::Unknown => {}
-        Asked::NoQuestion => lines.push("asked     the slot is not a question".into()),
-        Asked::Known(question) => {
-            let asked = words::asked(question);
-            lines.push(format!("asked     {},", asked[..3].join(", ")));
-            lines.push(format!("{INDENT}{}", asked[3..].join(", ")));
+pub struct Table {
+    names: Names,
+    layout: Layout,
+}
+
+impl Table {
+    pub fn new(names: Names, with_questions: bool, view: &View) -> Table {
+        let mut columns = match names {
+            Names::JobAndRevision => vec![number("job", 6), number("revision", 8)],
+            Names::WayAndRevolutions => vec![words("way", 5), number("revolutions", 11)],
+        };
+        columns.extend([words("transfer", 8), words("orbit", 9)]);
+        if with_questions {
+            columns.extend([number("perigee km", 10), number("apogee km", 10), number("incl deg", 8)]);
         }
+        columns.extend([number("v1 km/s", 8), number("v2 km/s", 8)]);
+        if with_questions {
+            columns.extend([number("dv1 km/s", 8), number("dv2 km/s", 8), number("miss m", 7)]);
+        }
+        Table { names, layout: Layout::new(columns, 2, view.columns) }
     }
-    match &record.outcome {
-        Outcome::Refused(number) => lines.extend(refused(*number)),
-        Outcome::Answered(entries) => {
-            for (i, entry) in entries.iter().enumerate() {
-                lines.extend(entry_lines(entry, i + 1, entries.len()));
-                if let Asked::Known(question) = asked {
-                    lines.push(changes_line(changes(question, entry)));
-                }
+
+    pub fn head(&self) -> String {
+        self.layout.head()
+    }
+
+    pub fn item(&self, item: &Item, view: &View) -> String {
+        let text = match item.record.outcome {
+            Outcome::Refused(number) => self.refusal(self.names(item), number, item, view),
+            Outcome::Answered(_) => {
+                let rows = item.transfers().map(|transfer| self.transfer(&transfer, item, view));
+                rows.collect()
             }
+        };
+        let asked = if view.detail { detail::asked(item.asked) } else { Vec::new() };
+        text + &self.indented(&asked, view)
+    }
+
+    fn names(&self, item: &Item) -> [String; 2] {
+        match (self.names, item.asked) {
+            (Names::WayAndRevolutions, Asked::Known(question)) => {
+                let revolutions = match item.last {
+                    Some(last) if last > question.revolutions => {
+                        format!("{} to {last}", question.revolutions)
+                    }
+                    _ => question.revolutions.to_string(),
+                };
+                [question.way().into(), revolutions]
+            }
+            _ => [item.record.job.to_string(), item.record.revision.to_string()],
         }
     }
-    row(record.job, record.revision, &lines)
+
+    fn transfer(&self, transfer: &Transfer, item: &Item, view: &View) -> String {
+        let names = if transfer.number == 1 { self.names(item) } else { Default::default() };
+        let mut text = self.layout.row(&self.cells(names, transfer));
+        if let Some(warning) = transfer.facts.and_then(Facts::warning) {
+            let lines = self.indented(&[format!("WARNING: {warning}")], view);
+            text += &view.colour.paint(Mark::Warning, &lines);
+        }
+        let detail = if view.detail { detail::transfer(transfer) } else { Vec::new() };
+        text + &self.indented(&detail, view)
+    }
+
+    fn cells(&self, names: [String; 2], transfer: &Transfer) -> Vec<String> {
+        let Transfer { entry, number, count, facts } = *transfer;
+        let mut cells = Vec::from(names);
+        cells.extend([format!("{number} of {count}"), kind(entry).into()]);
+        if let Some(Facts { arc, .. }) = facts {
+            cells.extend([distance(arc.perigee), arc.apogee.map_or("-".into(), distance)]);
+            cells.push(format!("{:.3}", arc.inclination));
+        }
+        cells.extend([entry.v1, entry.v2].map(|v| speed(size(v))));
+        if let Some(facts) = facts {
+            cells.extend(facts.changes.map(speed));
+            cells.push(miss(facts.miss));
+        }
+        cells
+    }
+
+    fn refusal(&self, names: [String; 2], number: u16, item: &Item, view: &View) -> String {
+        let question = item.question();
+        let line = format!("refused {number}: {}", refused::short(number, question));
+        let mut lines = vec![line];
+        if view.explain {
+            lines.push(refused::words(number, question));
+        }
+        let text = self.indented(&lines, view);
+        let text = view.colour.paint(Mark::Refusal, &text);
+        // The names take the place of the first line's indent.
+        let head = self.layout.row(&Vec::from(names));
+        let head = format!("{:<1$}", head.trim_end(), self.layout.indent());
+        text.replacen(&" ".repeat(self.layout.indent()), &head, 1)
+    }
+
+    /// Returns sentences below a row, each broken into lines that fit the output.
+    fn indented(&self, sentences: &[String], view: &View) -> String {
+        let indent = " ".repeat(self.layout.indent());
+        let width = view.width().saturating_sub(indent.len()).max(20);
+        let lines = sentences.iter().flat_map(|sentence| wrapped(sentence, width - 2, "  "));
+        lines.map(|line| format!("{indent}{line}\n")).collect()
+    }
 }
 
-/// Returns the transfers of an answer as lines without job and revision. The first line is the header.
+/// Returns what has to be known of the columns, after the last row.
+pub fn notes(with_questions: bool, view: &View) -> String {
+    let notes: &[&str] = if with_questions {
+        &[
+            "perigee and apogee are distances from the centre. dv1 and dv2 are the velocity changes from and to a \
+             circular orbit through r1 and r2, in the transfer's plane and sense. miss is the distance from r2 at \
+             arrival, by propagation. These, the inclination and the warnings are computed for this table: they are \
+             tested, not proved.",
+        ]
+    } else {
+        &["perigee, apogee, inclination, velocity changes, the miss at r2 and warnings need the questions: \
+           --questions FILE"]
+    };
+    let lines = notes.iter().flat_map(|note| wrapped(note, view.width(), ""));
+    lines.map(|line| line + "\n").collect()
+}
+
+/// Returns the transfers of an answer, without their question, as lines. The first line is the header.
 pub fn transfers(entries: &[Entry]) -> Vec<String> {
-    let lines = entries.iter().enumerate().flat_map(|(i, entry)| entry_lines(entry, i + 1, entries.len()));
-    [HEAD[BEFORE_TRANSFER..].trim_end().into()].into_iter().chain(lines).collect()
-}
-
-fn entry_lines(entry: &Entry, i: usize, count: usize) -> [String; 2] {
-    let which = format!("{i} of {count}");
-    let (x, width) = (x_of(entry.chosen()), entry.width());
-    let first = format!(
-        "{which:<8}  {:<9}  {x:>15.12}  {:<5}  {width:>7}  {:>9.3e}",
-        kind(entry),
-        end(entry),
-        x_of(width)
-    );
-    let rest = " ".repeat(first.chars().count());
-    [format!("{first}  v1{}", velocity(entry.v1)), format!("{rest}  v2{}", velocity(entry.v2))]
-}
-
-/// Returns the components of a velocity and its size.
-fn velocity(v: [f64; 3]) -> String {
-    let size = size(v);
-    [v[0], v[1], v[2], size].map(|part| format!("{:>13}", speed(part, size))).concat()
-}
-
-fn changes_line(changes: [f64; 2]) -> String {
-    let [from, to] = changes.map(|change| speed(change, change));
-    let orbits = "Δv from / to a circular orbit in the transfer's plane and sense";
-    format!("{INDENT}{orbits}: {from} km/s at r1, {to} km/s at r2")
+    let columns = vec![words("transfer", 8), words("orbit", 9), number("v1 km/s", 8), number("v2 km/s", 8)];
+    let layout = Layout::new(columns, 1, None);
+    let row = |(i, entry): (usize, &Entry)| {
+        let [v1, v2] = [entry.v1, entry.v2].map(|v| speed(size(v)));
+        layout.row(&[format!("{} of {}", i + 1, entries.len()), kind(entry).into(), v1, v2])
+    };
+    let rows = entries.iter().enumerate().map(row);
+    [layout.head()].into_iter().chain(rows).map(|line| line.trim_end().into()).collect()
 }
 
 #[cfg(test)]
-mod tests {
-    use super::*;
-    use crate::refusal;
-
-    #[test]
-    fn every_refusal_says_its_words() {
-        for number in 1..=14 {
-            let refused = Record { job: 5, revision: 1, outcome: Outcome::Refused(number) };
-            let text = record(&refused, &Asked::Unknown);
-            let words: Vec<&str> = text.split_whitespace().skip(2).collect();
-            assert_eq!(words.join(" "), format!("refused {number}: {}", refusal::words(number)));
-        }
-    }
-
-    #[test]
-    fn small_velocities_keep_their_digits() {
-        assert!(velocity([1e-5, 0.0, 0.0]).contains("1.00000e-5"));
-        assert!(velocity([3.0, 4.0, 0.0]).ends_with("5.000000"));
-    }
-}
+mod tests;

@@ -1,0 +1,66 @@
+//! What follows from a transfer and its question: the shape of the orbit, the least distance on the way, the velocity
+//! changes and the miss at r2. All of it is computed for display: it is tested, not proved.
+
+use super::circular;
+use crate::arc::Arc;
+use crate::fields::body_of;
+use crate::propagation;
+use crate::wire::{Entry, Question};
+
+/// The surface of the body that a transfer goes round.
+#[derive(Clone, Copy)]
+pub struct Surface {
+    /// The name of the body, if mu is that of a known one.
+    pub body: &'static str,
+    /// In km.
+    pub radius: f64,
+    /// Where the radius comes from.
+    pub source: &'static str,
+}
+
+impl Surface {
+    /// Returns the surface with the given radius or, if none is given, that of the body with this mu.
+    fn of(mu: f64, radius: Option<f64>) -> Option<Surface> {
+        let body = body_of(mu);
+        let name = body.map_or("the body", |body| body.name);
+        match radius {
+            Some(radius) => Some(Surface { body: name, radius, source: "given" }),
+            None => body.map(|body| Surface { body: name, radius: body.radius, source: body.radius_source }),
+        }
+    }
+}
+
+pub struct Facts {
+    pub arc: Arc,
+    /// The velocity changes from and to a circular orbit, in km/s.
+    pub changes: [f64; 2],
+    /// The distance from r2 at arrival in m, if it could be computed.
+    pub miss: Option<f64>,
+    pub surface: Option<Surface>,
+}
+
+impl Facts {
+    /// Returns the facts of an entry. `radius` is that of the body in km, if it was given.
+    pub fn of(question: &Question, entry: &Entry, radius: Option<f64>) -> Facts {
+        Facts {
+            arc: Arc::of(question, entry),
+            changes: circular::changes(question, entry),
+            miss: propagation::miss(question, entry).map(|km| 1000.0 * km),
+            surface: Surface::of(question.mu, radius),
+        }
+    }
+
+    /// Returns the surface if the arc from r1 to r2 passes below it.
+    pub fn passed(&self) -> Option<Surface> {
+        self.surface.filter(|surface| self.arc.lowest() < surface.radius)
+    }
+
+    /// Returns a sentence for a transfer that passes below the surface.
+    pub fn warning(&self) -> Option<String> {
+        let Surface { body, radius, .. } = self.passed()?;
+        Some(format!(
+            "passes below the surface of {body}: lowest {:.1} km from the centre, radius {radius} km",
+            self.arc.lowest()
+        ))
+    }
+}
