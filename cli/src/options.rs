@@ -68,7 +68,7 @@ impl Options {
     /// Fails if an option in `others` is given, since none of them goes together with `option`.
     pub fn apart(&self, option: &str, others: &[&str]) -> Result<(), Stop> {
         match others.iter().find(|other| self.has(option) && self.has(other)) {
-            Some(other) => Stop::said(format!("{option} and {other} do not go together")),
+            Some(other) => Stop::said(format!("{other} and {option} do not go together")),
             None => Ok(()),
         }
     }
@@ -112,7 +112,7 @@ mod tests {
         let options = read(&["--strict", "--jobs", "2"]).expect("good words");
         assert!(options.apart("--strict", &["-o"]).is_ok() && options.apart("-o", &["--jobs"]).is_ok());
         let told = options.apart("--strict", &["-o", "--jobs"]);
-        assert!(matches!(told, Err(Stop::Said(words)) if words == "--strict and --jobs do not go together"));
+        assert!(matches!(told, Err(Stop::Said(words)) if words == "--jobs and --strict do not go together"));
     }
 
     #[test]

@@ -34,8 +34,8 @@ pub struct View {
 
 impl View {
     pub fn read(options: &Options) -> Result<View, Stop> {
-        options.apart("--json", &["--csv", "--detail", "--explain"])?;
-        options.apart("--csv", &["--detail", "--explain"])?;
+        options.apart("--csv", &["--json", "--detail", "--explain"])?;
+        options.apart("--json", &["--detail", "--explain"])?;
         let form = match (options.has("--json"), options.has("--csv")) {
             (true, _) => Form::Json,
             (_, true) => Form::Csv,
