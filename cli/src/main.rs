@@ -28,6 +28,7 @@ mod stop;
 mod streams;
 #[allow(unsafe_code)]
 mod terminal;
+mod version;
 mod wire;
 mod words;
 
@@ -71,6 +72,9 @@ fn run(words: &[String]) -> Result<u8, Stop> {
     };
     if first == "--help" || first == "-h" {
         return say(help::WHOLE);
+    }
+    if first == "--version" || first == "-V" {
+        return say(&version::text());
     }
     let Some((_, help, command)) = COMMANDS.iter().find(|(name, ..)| name == first) else {
         let known = COMMANDS.iter().map(|(name, ..)| *name);
