@@ -17,7 +17,7 @@ use crate::ask::single::missing;
 use crate::fields;
 use crate::mistakes::Mistakes;
 use crate::options::Options;
-use crate::stop::Stop;
+use crate::stop::{tell, Stop};
 use crate::streams::{Input, Output};
 use request::{Place, Request};
 use sources::Sources;
@@ -64,6 +64,7 @@ fn single(options: &Options) -> Result<u8, Stop> {
             let mut output = Output::open(options.value("-o"), &inputs.each_ref().map(Input::id))?;
             output.put(&message.bytes)?;
             output.finish()?;
+            message.warning.iter().for_each(|words| warn(words));
         }
     }
     Ok(0)
@@ -96,14 +97,24 @@ fn listed(options: &Options) -> Result<u8, Stop> {
     let requests = list::requests(&mut list, ignore_extra, &texts::given(options)?, &mut mistakes)?;
     let sources = Sources::read(&mut inputs, &requests)?;
     let mut files = folder::Files::new();
+    let mut warnings = Vec::new();
     for request in &requests {
         match message::make(request, &sources) {
             Err(words) => mistakes.add(words),
-            Ok(message) => folder::add(&mut files, folder, &request.place, message, &mut mistakes),
+            Ok(message) => {
+                warnings.extend(message.warning.clone());
+                folder::add(&mut files, folder, &request.place, message, &mut mistakes);
+            }
         }
     }
     let present = folder::leave_out_present(&mut files, &mut mistakes);
     mistakes.stop()?;
     folder::write(folder, &files, present)?;
+    warnings.iter().for_each(|words| warn(words));
     Ok(0)
+}
+
+/// Prints what an orbit message does not say.
+fn warn(words: &str) {
+    tell(&format!("WARNING: {words}"));
 }

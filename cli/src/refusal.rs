@@ -21,18 +21,18 @@ pub fn words(number: u16) -> String {
 fn gist(number: u16) -> &'static str {
     match number {
         1 => "damaged, or not a question",
-        2 => "a position is not finite, or above 2^40 km",
-        3 => "a distance from the centre is below 1 km or above 2^40 km",
-        4 => "mu is not finite, below 1 or above 2^60 km^3/s^2",
-        5 => "the time is not finite, below 1 s or above 2^40 s",
+        2 => "a position is out of range",
+        3 => "a distance from the centre is out of range",
+        4 => "mu is out of range",
+        5 => "the time is out of range",
         6 => "more than 16 whole revolutions",
         7 => "the answer buffer is too small",
         8 => "the positions do not define a plane",
         9 => "the positions are too close together",
         10 => "the triangle is flat",
         11 => "nothing was found among the shapes searched",
-        12 => "nothing was found, and the search is incomplete",
-        13 => "more transfers were found than an answer can hold",
+        12 => "nothing was found in an incomplete search",
+        13 => "more transfers than an answer can hold",
         14 => "a velocity is not finite",
         _ => "not a number of the table",
     }
@@ -106,7 +106,7 @@ mod tests {
         for number in 0..=20 {
             assert!(short(number).ends_with(NOT_SAID), "{number}");
             assert!(words(number).to_lowercase().contains(NOT_SAID), "{number}");
-            assert!(format!("refused {number}: {}", short(number)).len() <= 120, "{number}");
+            assert!(format!("refused {number}: {}", short(number)).len() <= 98, "{number}");
         }
     }
 }

@@ -3,7 +3,7 @@
 mod circular;
 mod comma;
 mod detail;
-mod facts;
+pub mod facts;
 mod item;
 mod json;
 mod layout;

@@ -17,7 +17,7 @@ pub type Files = BTreeMap<PathBuf, (Place, Vec<u8>)>;
 /// Adds an orbit message under its name in the folder. Equal orbit messages are one file. If an earlier line
 /// has a different one of that name, records a mistake.
 pub fn add(files: &mut Files, folder: &str, place: &Place, message: OrbitMessage, mistakes: &mut Mistakes) {
-    let OrbitMessage { job, revision, entry, bytes } = message;
+    let OrbitMessage { job, revision, entry, bytes, .. } = message;
     let path = Path::new(folder).join(format!("{job}-{revision}-{entry}.opm"));
     match files.get(&path) {
         None => {
@@ -75,8 +75,12 @@ pub fn write(folder: &str, files: &Files, present: usize) -> Result<(), Stop> {
     Ok(())
 }
 
+/// Writes a file that must not be there yet.
 fn write_one(path: &Path, bytes: &[u8]) -> Result<(), Stop> {
     let name = path.to_string_lossy();
+    if path.symlink_metadata().is_ok() {
+        return Stop::said(format!("cannot write {name}: it is there already"));
+    }
     let mut output = Output::open(Some(&name), &[])?;
     output.put(bytes)?;
     output.finish()

@@ -7,6 +7,7 @@ use super::sources::Sources;
 use super::texts;
 use crate::proved::orbit_message;
 use crate::refusal;
+use crate::show::facts::Facts;
 use crate::show::table;
 use crate::wire::{Entry, Outcome, Question, Record};
 use crate::words::number;
@@ -25,6 +26,8 @@ pub struct OrbitMessage {
     pub revision: u32,
     pub entry: u32,
     pub bytes: Vec<u8>,
+    /// What the orbit message does not say: that the transfer passes below the surface.
+    pub warning: Option<String>,
 }
 
 /// Returns the orbit message that is asked for, or the sentences that say why there is none.
@@ -41,10 +44,14 @@ pub fn make(request: &Request, sources: &Sources) -> Result<OrbitMessage, Vec<St
     let entry = match (request.entry, &entries[..]) {
         (Some(entry), _) => entry,
         (None, [_]) => 1,
-        (None, _) => return Err(say(several(request, key, entries))),
+        (None, _) => return Err(say(several(request, &record, question, entries.len()))),
     };
     match orbit_message(bytes, entry.into(), question.r1, &texts::lines(&request.texts)) {
-        Ok(bytes) => Ok(OrbitMessage { job: key.0, revision: key.1, entry, bytes }),
+        Ok(bytes) => {
+            let facts = Facts::of(question, &entries[entry as usize - 1], None);
+            let warning = facts.warning().map(|words| format!("{}, transfer {entry} {words}", words_of(key)));
+            Ok(OrbitMessage { job: key.0, revision: key.1, entry, bytes, warning })
+        }
         Err(TEXT) => Err(texts::why(&request.texts)),
         Err(NO_ENTRY) => Err(vec![no_entry(request, key, entry, entries)]),
         Err(NOT_WRITABLE) => Err(say(not_writable(key, question, &entries[entry as usize - 1]))),
@@ -60,13 +67,11 @@ fn refused(key: Key, number: u16) -> String {
 }
 
 /// Returns a sentence that says that an answer has several transfers, and lists them as `show` does.
-fn several(request: &Request, key: Key, entries: &[Entry]) -> String {
-    let (count, how) = (entries.len(), request.place.choose("entry"));
-    let lines: String = table::transfers(entries).iter().map(|line| format!("\n  {line}")).collect();
-    format!(
-        "{} has {count} transfers, and an orbit message has one: {how}, 1 to {count}{lines}",
-        words_of(key)
-    )
+fn several(request: &Request, record: &Record, question: &Question, count: usize) -> String {
+    let how = request.place.choose("entry");
+    let lines: String = table::transfers(record, question).iter().map(|line| format!("\n  {line}")).collect();
+    let which = words_of((record.job, record.revision));
+    format!("{which} has {count} transfers, and an orbit message has one: {how}, 1 to {count}{lines}")
 }
 
 fn no_entry(request: &Request, key: Key, entry: u32, entries: &[Entry]) -> String {

@@ -7,7 +7,7 @@ use super::view::{Form, View};
 use super::{comma, json};
 use crate::terminal::Mark;
 use crate::wire::{Outcome, Record};
-use crate::words::counted;
+use crate::words::{counted, wrapped};
 
 pub struct Printer {
     view: View,
@@ -72,44 +72,44 @@ impl Printer {
     /// Returns the text after a record that is the last only because of a fault.
     pub fn cut(&self, why: &str) -> String {
         match self.view.form {
-            Form::Table => {
-                let line = format!("INCOMPLETE: {why}");
-                self.summary() + &self.view.colour.paint(Mark::Warning, &line) + "\n"
-            }
+            Form::Table => self.summary() + &self.lines(&format!("INCOMPLETE: {why}"), Some(Mark::Warning)),
             _ => String::new(),
         }
     }
 
+    /// Returns how many records there are of each outcome, and what has to be known of their transfers.
     fn summary(&self) -> String {
         let Tally { answered, refused, transfers, below, unknown } = self.tally;
-        let mut text = match (answered, refused) {
+        let found = counted(transfers, "transfer");
+        let mut counts = match (answered, refused) {
             (0, 0) => "0 records: there is nothing to show".into(),
-            (_, 0) => {
-                format!("{} answered with {}", counted(answered, "record"), counted(transfers, "transfer"))
-            }
+            (_, 0) => format!("{} answered with {found}", counted(answered, "record")),
             (0, _) => format!("{} refused", counted(refused, "record")),
             _ => {
                 let all = counted(answered + refused, "record");
-                let found = counted(transfers, "transfer");
                 format!("{all}: {answered} answered with {found}, {refused} refused")
             }
         };
         if refused > 0 && !self.view.explain {
-            text += "; --explain says what a refusal means";
+            counts += "; --explain says what a refusal means";
         }
-        text += "\n";
+        let mut text = self.lines(&counts, None);
         if below > 0 {
-            let s = if below == 1 { "passes" } else { "pass" };
-            let line = format!("{} {s} below the surface", counted(below, "transfer"));
-            text += &(self.view.colour.paint(Mark::Warning, &line) + "\n");
+            let pass = if below == 1 { "passes" } else { "pass" };
+            let words = format!("{} {pass} below the surface", counted(below, "transfer"));
+            text += &self.lines(&words, Some(Mark::Warning));
         }
         if unknown > 0 {
-            let what = counted(unknown, "transfer");
-            text += &format!(
-                "{what} could not be checked against a surface: give the body's radius with --radius\n"
-            );
+            let words = "could not be checked against a surface: give the body's radius with --radius";
+            text += &self.lines(&format!("{} {words}", counted(unknown, "transfer")), None);
         }
         text
+    }
+
+    /// Returns a sentence in lines that fit the output.
+    fn lines(&self, sentence: &str, mark: Option<Mark>) -> String {
+        let lines = wrapped(sentence, self.view.width(), "").join("\n") + "\n";
+        mark.map_or(lines.clone(), |mark| self.view.colour.paint(mark, &lines))
     }
 }
 

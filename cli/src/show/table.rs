@@ -3,14 +3,14 @@
 
 use super::facts::Facts;
 use super::item::{Item, Transfer};
-use super::layout::{number, words, Layout};
+use super::layout::{number, words, Column, Layout};
 use super::numbers::{distance, miss, speed};
 use super::pairs::Asked;
 use super::view::View;
 use super::{detail, refused};
 use crate::orbit::{kind, size};
 use crate::terminal::Mark;
-use crate::wire::{Entry, Outcome};
+use crate::wire::{Outcome, Question, Record};
 use crate::words::wrapped;
 
 /// What the first two columns name a record by.
@@ -32,14 +32,7 @@ impl Table {
             Names::JobAndRevision => vec![number("job", 6), number("revision", 8)],
             Names::WayAndRevolutions => vec![words("way", 5), number("revolutions", 11)],
         };
-        columns.extend([words("transfer", 8), words("orbit", 9)]);
-        if with_questions {
-            columns.extend([number("perigee km", 10), number("apogee km", 10), number("incl deg", 8)]);
-        }
-        columns.extend([number("v1 km/s", 8), number("v2 km/s", 8)]);
-        if with_questions {
-            columns.extend([number("dv1 km/s", 8), number("dv2 km/s", 8), number("miss m", 7)]);
-        }
+        columns.extend(self::columns(with_questions));
         Table { names, layout: Layout::new(columns, 2, view.columns) }
     }
 
@@ -76,29 +69,13 @@ impl Table {
 
     fn transfer(&self, transfer: &Transfer, item: &Item, view: &View) -> String {
         let names = if transfer.number == 1 { self.names(item) } else { Default::default() };
-        let mut text = self.layout.row(&self.cells(names, transfer));
+        let mut text = self.layout.row(&[&names[..], &cells(transfer)].concat());
         if let Some(warning) = transfer.facts.and_then(Facts::warning) {
             let lines = self.indented(&[format!("WARNING: {warning}")], view);
             text += &view.colour.paint(Mark::Warning, &lines);
         }
         let detail = if view.detail { detail::transfer(transfer) } else { Vec::new() };
         text + &self.indented(&detail, view)
-    }
-
-    fn cells(&self, names: [String; 2], transfer: &Transfer) -> Vec<String> {
-        let Transfer { entry, number, count, facts } = *transfer;
-        let mut cells = Vec::from(names);
-        cells.extend([format!("{number} of {count}"), kind(entry).into()]);
-        if let Some(Facts { arc, .. }) = facts {
-            cells.extend([distance(arc.perigee), arc.apogee.map_or("-".into(), distance)]);
-            cells.push(format!("{:.3}", arc.inclination));
-        }
-        cells.extend([entry.v1, entry.v2].map(|v| speed(size(v))));
-        if let Some(facts) = facts {
-            cells.extend(facts.changes.map(speed));
-            cells.push(miss(facts.miss));
-        }
-        cells
     }
 
     fn refusal(&self, names: [String; 2], number: u16, item: &Item, view: &View) -> String {
@@ -125,6 +102,35 @@ impl Table {
     }
 }
 
+/// Returns the columns of a transfer.
+fn columns(with_questions: bool) -> Vec<Column> {
+    let mut columns = vec![words("transfer", 8), words("orbit", 9)];
+    if with_questions {
+        columns.extend([number("perigee km", 10), number("apogee km", 10), number("incl deg", 8)]);
+    }
+    columns.extend([number("v1 km/s", 8), number("v2 km/s", 8)]);
+    if with_questions {
+        columns.extend([number("dv1 km/s", 8), number("dv2 km/s", 8), number("miss m", 7)]);
+    }
+    columns
+}
+
+/// Returns the cells of a transfer in these columns.
+fn cells(transfer: &Transfer) -> Vec<String> {
+    let Transfer { entry, number, count, facts } = *transfer;
+    let mut cells = vec![format!("{number} of {count}"), kind(entry).into()];
+    if let Some(Facts { arc, .. }) = facts {
+        cells.extend([distance(arc.perigee), arc.apogee.map_or("-".into(), distance)]);
+        cells.push(format!("{:.3}", arc.inclination));
+    }
+    cells.extend([entry.v1, entry.v2].map(|v| speed(size(v))));
+    if let Some(facts) = facts {
+        cells.extend(facts.changes.map(speed));
+        cells.push(miss(facts.miss));
+    }
+    cells
+}
+
 /// Returns what has to be known of the columns, after the last row.
 pub fn notes(with_questions: bool, view: &View) -> String {
     let notes: &[&str] = if with_questions {
@@ -142,15 +148,13 @@ pub fn notes(with_questions: bool, view: &View) -> String {
     lines.map(|line| line + "\n").collect()
 }
 
-/// Returns the transfers of an answer, without their question, as lines. The first line is the header.
-pub fn transfers(entries: &[Entry]) -> Vec<String> {
-    let columns = vec![words("transfer", 8), words("orbit", 9), number("v1 km/s", 8), number("v2 km/s", 8)];
-    let layout = Layout::new(columns, 1, None);
-    let row = |(i, entry): (usize, &Entry)| {
-        let [v1, v2] = [entry.v1, entry.v2].map(|v| speed(size(v)));
-        layout.row(&[format!("{} of {}", i + 1, entries.len()), kind(entry).into(), v1, v2])
-    };
-    let rows = entries.iter().enumerate().map(row);
+/// Returns the transfers of an answer as lines, without job and revision. The first line is the header.
+pub fn transfers(record: &Record, question: &Question) -> Vec<String> {
+    let asked = Asked::Known(question.clone());
+    let (item, columns) = (Item::new(record, &asked, None), columns(true));
+    let layout = Layout::new(columns, 0, None);
+    let row = |transfer: Transfer| layout.row(&cells(&transfer));
+    let rows = item.transfers().map(row);
     [layout.head()].into_iter().chain(rows).map(|line| line.trim_end().into()).collect()
 }
 

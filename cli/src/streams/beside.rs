@@ -14,7 +14,7 @@ impl Beside {
     /// Creates the file beside `name`. If `name` is a link to a file, that file will be replaced, and a file that is
     /// replaced passes on its permissions.
     pub fn create(name: &str) -> io::Result<(File, Beside)> {
-        let name = fs::canonicalize(name).unwrap_or_else(|_| PathBuf::from(name));
+        let name = target(PathBuf::from(name))?;
         let Some(last) = name.file_name() else { return Err(io::ErrorKind::IsADirectory.into()) };
         let made = name.with_file_name(format!(".{}.{}.part", last.to_string_lossy(), std::process::id()));
         let file = OpenOptions::new().write(true).create_new(true).open(&made)?;
@@ -30,6 +30,17 @@ impl Beside {
         File::open(&self.made)?.sync_all()?;
         fs::rename(&self.made, &self.name)
     }
+}
+
+/// Returns the file that a link leads to, also if it is not there yet.
+fn target(mut name: PathBuf) -> io::Result<PathBuf> {
+    for _ in 0..40 {
+        match fs::read_link(&name) {
+            Err(_) => return Ok(name),
+            Ok(next) => name = name.with_file_name(next),
+        }
+    }
+    Err(io::Error::other("too many links"))
 }
 
 /// Removes the file beside. After a rename it is not there any more, and that is no fault.
