@@ -49,12 +49,13 @@ impl Orbit {
         (u1 + self.sigma * u2 + u3, u0 + self.sigma * u1 + u2)
     }
 
-    /// Returns the chi that the motion reaches after a time. A step is one of Newton if that stays between the bounds, and otherwise
-    /// goes to their middle. When only rounding is left, the steps no longer shrink, so the best chi counts and not the last.
+    /// Returns the chi that the motion reaches after a time. A step is one of Newton if that stays between the bounds and is at most
+    /// half as long as the step before. Otherwise it goes to the middle of the bounds. When only rounding is left, the last chi need
+    /// not be the best, so the best is kept.
     fn chi_after(&self, time: f64) -> Option<f64> {
         let (mut low, mut high) = (0.0, self.bound(time)?);
         let (mut best, mut least) = (0.0, f64::INFINITY);
-        let mut chi = 0.5 * high;
+        let (mut chi, mut step) = (0.5 * high, 2.0 * high);
         for _ in 0..STEPS {
             let (reached, radius) = self.at(chi);
             let error = reached - time;
@@ -64,11 +65,12 @@ impl Orbit {
             // Far out on a hyperbola the time is infinite or not a number. Both are too long.
             *(if error < 0.0 { &mut low } else { &mut high }) = chi;
             let newton = chi - error / radius;
-            let next = if low <= newton && newton <= high { newton } else { 0.5 * (low + high) };
+            let shorter = (newton - chi).abs() <= 0.5 * step;
+            let next = if shorter && low <= newton && newton <= high { newton } else { 0.5 * (low + high) };
             if next == chi {
                 break;
             }
-            chi = next;
+            (step, chi) = ((next - chi).abs(), next);
         }
         (least <= LEFT * time).then_some(best)
     }

@@ -131,6 +131,21 @@ fn the_apogee_agrees_with_the_kind() {
         let question =
             Question { job: 1, revision: 1, revolutions: 0, long_way: false, r1, r2, mu: MU, time: 1.0 };
         let arc = Arc::of(&question, &Entry { low, halvings: 20, upper_chosen: false, v1, v2 });
-        assert_eq!(arc.apogee.is_some_and(|apogee| apogee > 8e3), some, "e = {e}, k = {low}");
+        assert_eq!(arc.apogee.is_some(), some, "e = {e}, k = {low}");
+        assert!(arc.apogee.is_none_or(|apogee| apogee > 8e3), "{:?}", arc.apogee);
+    }
+}
+
+/// From a perigee of 1 km to an apogee of 10 million million km and back, with mu = 1. At the perigee the energy is all rounding.
+#[test]
+fn the_apogee_of_a_very_long_ellipse() {
+    let near_end = ([1.0, 0.0, 0.0], [0.0, (2e13 / (1.0 + 1e13f64)).sqrt(), 0.0]);
+    let far_end = ([-1e13, 0.0, 0.0], [0.0, -near_end.1[1] / 1e13, 0.0]);
+    for ((r1, v1), (r2, v2)) in [(near_end, far_end), (far_end, near_end)] {
+        let question =
+            Question { job: 1, revision: 1, revolutions: 0, long_way: false, r1, r2, mu: 1.0, time: 1.0 };
+        let arc = Arc::of(&question, &Entry { low: 0, halvings: 20, upper_chosen: false, v1, v2 });
+        near(arc.apogee.expect("an ellipse"), 1e13);
+        near(arc.perigee, 1.0);
     }
 }

@@ -72,8 +72,7 @@ fn every_answer_has_an_arc_and_a_miss() {
     }
 }
 
-/// A quarter and many whole revolutions of a circle with mu = 1, half a revolution of an ellipse with a = 2, a parabola and a fall
-/// from which no revolution comes back.
+/// A quarter and many whole revolutions of a circle with mu = 1, half a revolution of an ellipse with a = 2, and a parabola.
 #[test]
 fn closed_cases() {
     let up = [1.0, 0.0, 0.0];
@@ -88,6 +87,23 @@ fn closed_cases() {
         let found = position_after(1.0, up, v, time).expect("a position");
         assert!(distance(found, end) < 1e-13, "{found:?}, not {end:?}");
     }
+    // A hyperbola so fast that it is nearly a straight line.
+    let found = position_after(1.0, up, [-1e3, 1e3, 0.0], 0.1).expect("a position");
+    assert!(distance(found, [-99.0, 100.0, 0.0]) < 1e-3, "{found:?}");
+}
+
+/// The first product has digits below those of an f64, and the second has a root that is not an f64.
+#[test]
+fn a_small_energy_keeps_its_digits() {
+    let step = 2f64.powi(-27);
+    let mu = (1.0 + 6.0 * step) / 2.0 + 2f64.powi(-40);
+    let expected = (2f64.powi(-39) - 9.0 * step * step) / mu;
+    let found = inverse_axis(mu, [1.0, 0.0, 0.0], [0.0, 1.0 + 3.0 * step, 0.0]);
+    assert!((found / expected - 1.0).abs() < 1e-15, "{found}, not {expected}");
+    let root = 3f64.sqrt();
+    let found = inverse_axis(root / 2.0, [1.0; 3], [0.0, 0.0, 1.0]);
+    // The root of 3 is larger than the f64 nearest to it by 1.00350842e-16.
+    assert!((found * root / 2.0 + 1.003_508_42e-16).abs() < 1e-24, "{found}");
 }
 
 #[test]
@@ -100,6 +116,7 @@ fn numbers_that_are_not_finite_have_no_position() {
         assert_eq!(position_after(1.0, r, v, bad), None);
     }
     assert_eq!(position_after(0.0, r, v, 1.0), None);
+    assert_eq!(position_after(1.0, r, v, 1e200), None);
     assert_eq!(position_after(1.0, [0.0; 3], v, 1.0), None);
 }
 

@@ -32,3 +32,46 @@ fn series(z: f64, n: f64) -> f64 {
     }
     sum
 }
+
+#[cfg(test)]
+mod tests {
+    use super::*;
+
+    const CIRCLE: [[f64; 4]; 2] = [
+        [
+            0.621_609_968_270_664_4,
+            0.783_326_909_627_483_4,
+            0.378_390_031_729_335_55,
+            0.116_673_090_372_516_62,
+        ],
+        [-0.416_146_836_547_142_4, 0.909_297_426_825_681_7, 1.416_146_836_547_142_4, 1.090_702_573_174_318_3],
+    ];
+    const HYPERBOLA: [[f64; 4]; 2] = [
+        [1.433_086_385_448_774_3, 1.026_516_725_708_175_3, 0.433_086_385_448_774_4, 0.126_516_725_708_175_3],
+        [3.762_195_691_083_631_4, 3.626_860_407_847_018_6, 2.762_195_691_083_631_4, 1.626_860_407_847_018_8],
+    ];
+
+    fn near(found: [f64; 4], expected: [f64; 4]) {
+        for (found, expected) in found.into_iter().zip(expected) {
+            assert!((found - expected).abs() <= 4e-16 * expected.abs(), "{found}, not {expected}");
+        }
+    }
+
+    /// With alpha = 1 they are cos, sin, 1 − cos and chi − sin. The decimals are of chi = 0.9 (series) and chi = 2.
+    #[test]
+    fn of_a_circle_and_a_hyperbola() {
+        near(universal(1.0, 0.9), CIRCLE[0]);
+        near(universal(1.0, 2.0), CIRCLE[1]);
+        near(universal(-1.0, 0.9), HYPERBOLA[0]);
+        near(universal(-1.0, 2.0), HYPERBOLA[1]);
+    }
+
+    #[test]
+    fn near_a_parabola() {
+        near(universal(0.0, 3.0), [1.0, 3.0, 4.5, 4.5]);
+        for alpha in [1e-9, -1e-9, 1e-12, -1e-12, 5e-324] {
+            let parts = [(1.0, 2.0), (2.0, 4.0 / 3.0), (2.0, 2.0 / 3.0), (4.0 / 3.0, 4.0 / 15.0)];
+            near(universal(alpha, 2.0), parts.map(|(parabola, change)| parabola - change * alpha));
+        }
+    }
+}
