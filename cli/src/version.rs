@@ -1,10 +1,14 @@
 //! The text that `--version` prints: what the program was built from, and what was proved. `cli/build` passes this to the compiler in
 //! environment variables. If the program is built without `cli/build`, it is not known, and the text says so.
 
+use crate::words;
+
 #[cfg(test)]
 mod tests;
 
 const COLUMNS: usize = 100;
+/// The width of the labels.
+const LABEL: usize = 12;
 const UNKNOWN: &str = "unknown: not built by cli/build";
 
 pub fn text() -> String {
@@ -19,18 +23,8 @@ pub fn text() -> String {
     format!("{} {}\n{}", env!("CARGO_PKG_NAME"), env!("CARGO_PKG_VERSION"), lines.concat())
 }
 
-/// A label and the words after it, in lines of at most 100 columns. On every line the words begin in the same column.
+/// Returns a label and the words after it, in lines of at most 100 columns. On every line the words begin in the same column.
 fn wrapped(label: &str, words: &str) -> String {
-    let mut text = String::new();
-    let mut line = format!("{label:<11}");
-    for word in words.split_whitespace() {
-        if line.len() + 1 + word.len() > COLUMNS {
-            text += &line;
-            text.push('\n');
-            line = " ".repeat(11);
-        }
-        line.push(' ');
-        line += word;
-    }
-    text + &line + "\n"
+    let lines = words::wrapped(words, COLUMNS - LABEL, "");
+    format!("{label:<LABEL$}{}\n", lines.join(&format!("\n{:LABEL$}", "")))
 }
