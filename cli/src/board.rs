@@ -1,47 +1,57 @@
 //! `board`: posts records to a board, which holds the outcome of each job's highest revision whatever the order of the records.
 
+mod comma;
+mod conflict;
+mod difference;
+mod json;
+mod names;
+mod origins;
 mod posting;
+mod sources;
 mod table;
+mod tally;
 
 use crate::options::Options;
 use crate::proved::post;
 use crate::stop::{tell, Stop};
-use crate::streams::{Input, Output};
+use crate::streams::{FileId, Input, Output};
+use crate::terminal::{columns, Colour};
 use crate::wire::slots::{filled, Held, BOARD};
-use posting::Tally;
+use crate::words::counted;
+use posting::Posting;
 use std::io::Read;
+use table::Look;
 
-/// Runs the command and returns its status: 2 if an input could not be split into records up to its end, 1 if `--strict` is given
-/// and a record was refused or the board has a conflict. It opens the output after it has read all inputs.
+const FLAGS: [&str; 5] = ["--strict", "--bytes", "--json", "--csv", "--explain"];
+
+/// Runs the command and returns its status: 2 if a record found no place on the board or an input could not be read to its end, 1
+/// if `--strict` is given and the board has a conflict. It opens the output after it has read all inputs.
 pub fn run(words: &[String]) -> Result<u8, Stop> {
-    let options = Options::read(words, &["--strict", "--bytes"], &["--board", "-o"])?;
-    let mut inputs = open(&options)?;
-    let mut stored = options.value("--board").map(|name| Input::open(Some(name))).transpose()?;
-    let mut board = stored.as_mut().map_or(Ok(vec![0; BOARD]), read)?;
-    let mut tally = Tally::default();
-    inputs.iter_mut().try_for_each(|input| posting::post_all(input, &mut board, &mut tally))?;
-    inputs.extend(stored);
-    let ids: Vec<_> = inputs.iter().map(Input::id).collect();
-    let mut output = Output::open(options.value("-o"), &ids)?;
-    if options.has("--bytes") {
-        output.put(&board)?;
-    } else {
-        output.put(table::table(&board).as_bytes())?;
-    }
-    output.finish()?;
-    Ok(status(&board, &tally, options.has("--strict")))
-}
-
-/// Opens the inputs that the records come from.
-fn open(options: &Options) -> Result<Vec<Input>, Stop> {
-    let none = options.files.is_empty();
-    if options.value("--board") == Some("-") && (none || options.files.iter().any(|name| name == "-")) {
+    let options = Options::read(words, &FLAGS, &["--board", "-o"])?;
+    options.apart("--json", &["--csv", "--bytes", "--explain"])?;
+    options.apart("--csv", &["--bytes", "--explain"])?;
+    options.apart("--bytes", &["--explain"])?;
+    let stored_name = options.value("--board");
+    if stored_name == Some("-") && (options.files.is_empty() || options.files.iter().any(|name| name == "-"))
+    {
         return Stop::said("records and the board cannot both come from standard input");
     }
-    if none {
-        return Ok(vec![Input::open(None)?]);
+    let sources = sources::list(&options.files)?;
+    let mut stored = stored_name.map(|name| Input::open(Some(name))).transpose()?;
+    let board = stored.as_mut().map_or(Ok(vec![0; BOARD]), read)?;
+    let mut ids = vec![stored.as_ref().and_then(Input::id)];
+    let mut posting = Posting::on(board, stored.map(|input| input.name).unwrap_or_default());
+    for source in sources {
+        let (name, id) = (source.name.clone(), source.id);
+        let input = source.open();
+        ids.extend([id, input.as_ref().ok().and_then(Input::id)]);
+        posting.post_all(name, input);
     }
-    options.files.iter().map(|name| Input::open(Some(name))).collect()
+    match write(&posting, &options, &ids) {
+        // A closed pipe does not change the status of the board.
+        Ok(()) | Err(Stop::PipeClosed) => Ok(status(&posting, options.has("--strict"))),
+        Err(stop) => Err(stop),
+    }
 }
 
 /// Reads a stored board. To check that it is one, this function posts an empty record: that changes no board, and the number of the
@@ -61,16 +71,41 @@ fn read(input: &mut Input) -> Result<Vec<u8>, Stop> {
     Stop::said(format!("{name}: B0, not a board: {why}"))
 }
 
-fn status(board: &[u8], tally: &Tally, strict: bool) -> u8 {
-    let conflicts = filled(board).filter(|slot| slot.held == Held::Conflict).count();
-    let Tally { records, refused, unread } = *tally;
-    let failed = strict && (refused > 0 || conflicts > 0);
-    if failed {
-        let s = if conflicts == 1 { "" } else { "s" };
-        tell(&format!("{refused} of {records} records refused, {conflicts} conflict{s} on the board"));
+/// Writes the board in the form that is asked for. If the reader of standard output does not see what is missing on the board,
+/// prints it to standard error.
+fn write(posting: &Posting, options: &Options, ids: &[Option<FileId>]) -> Result<(), Stop> {
+    let name = options.value("-o");
+    let to_file = name.is_some_and(|name| name != "-");
+    let bytes = if options.has("--bytes") {
+        posting.board.clone()
+    } else if options.has("--json") {
+        json::lines(posting).into_bytes()
+    } else if options.has("--csv") {
+        comma::lines(posting).into_bytes()
+    } else {
+        let explain = options.has("--explain");
+        let look = Look { columns: columns(), colour: Colour::of_output(to_file), explain };
+        table::table(posting, &look).into_bytes()
+    };
+    let mut output = match options.has("--bytes") {
+        true => Output::open_bytes(name, ids, "-o OUT writes the board to a file")?,
+        false => Output::open(name, ids)?,
+    };
+    if to_file || ["--bytes", "--json", "--csv"].iter().any(|form| options.has(form)) {
+        posting.tally.missing().into_iter().for_each(|words| tell(&words));
     }
-    match unread {
-        true => 2,
-        false => failed.into(),
+    output.put(&bytes)?;
+    output.finish()
+}
+
+fn status(posting: &Posting, strict: bool) -> u8 {
+    let conflicts = filled(&posting.board).filter(|slot| slot.held == Held::Conflict).count();
+    let failed = strict && conflicts > 0;
+    if failed {
+        tell(&format!("{} on the board", counted(conflicts as u64, "conflict")));
+    }
+    match posting.tally.missing() {
+        Some(_) => 2,
+        None => failed.into(),
     }
 }

@@ -1,40 +1,109 @@
-//! A board as a table: a row for each job, and a last line that says how full the board is.
+//! A board as a table: a row for each job, a line that says how full the board is and, if something is missing, a line that
+//! says what.
 
+use super::conflict::{foreign, sentences, CONFLICT};
+use super::posting::Posting;
 use crate::orbit::{kind, size, x_of};
-use crate::rows::{refused, row, speed};
-use crate::wire::slots::{filled, Held, SLOTS};
+use crate::refusal;
+use crate::rows::speed;
+use crate::terminal::{Colour, Mark};
+use crate::wire::slots::{filled, Filled, Held, SLOTS};
 use crate::wire::{Entry, Outcome};
+use crate::words::wrapped;
 
-const HEAD: &str = "       job   rev  transfer  orbit      x of chosen end      v1 km/s      v2 km/s\n";
-const CONFLICT: &str = "CONFLICT: different records came for this revision; only a higher revision clears it";
+const HEAD: &str = "       job revision  transfer orbit     x of chosen end     v1 km/s     v2 km/s\n";
+/// The width of the columns before the transfer.
+const BEFORE: usize = 21;
+/// The width of a table whose width is not given. Each refusal fits one line of it.
+const WIDE: usize = 142;
+/// The least width at which words are broken into lines.
+const NARROW: usize = 30;
+const INDENT: &str = "  ";
 
-pub fn table(board: &[u8]) -> String {
-    let (mut text, mut jobs, mut conflicts) = (HEAD.to_string(), 0, 0);
-    for slot in filled(board) {
-        jobs += 1;
-        conflicts += u32::from(slot.held == Held::Conflict);
-        text += &row(slot.job, slot.revision, &lines(&slot.held));
-    }
-    text + &format!("{jobs} of {SLOTS} slots filled, {conflicts} in conflict\n")
+pub struct Look {
+    pub columns: Option<usize>,
+    pub colour: Colour,
+    /// Whether the meaning of each refusal is given in full.
+    pub explain: bool,
 }
 
-fn lines(held: &Held) -> Vec<String> {
-    match held {
-        Held::Conflict => vec![CONFLICT.into()],
-        Held::Outcome(Outcome::Refused(number)) => refused(*number),
+/// A line of a row, and how it is meant.
+type Line = (Option<Mark>, String);
+
+pub fn table(posting: &Posting, look: &Look) -> String {
+    let rows = filled(&posting.board).map(|slot| row(&slot, &lines(&slot, posting, look), look));
+    let text = HEAD.to_string() + &rows.collect::<String>() + &summary(&posting.board);
+    text + &posting.tally.missing().map(|words| last(&words, look)).unwrap_or_default()
+}
+
+/// Returns the line that says how full the board is.
+fn summary(board: &[u8]) -> String {
+    let [mut answered, mut refused, mut conflicts] = [0; 3];
+    filled(board).for_each(|slot| match slot.held {
+        Held::Conflict => conflicts += 1,
+        Held::Outcome(Outcome::Refused(_)) => refused += 1,
+        Held::Outcome(Outcome::Answered(_)) | Held::Foreign(..) => answered += 1,
+    });
+    let all = answered + refused + conflicts;
+    format!(
+        "{all} of {SLOTS} slots filled: {answered} answered, {refused} refused, {conflicts} in conflict\n"
+    )
+}
+
+/// Returns the line about what is missing. It is only broken if a width is given.
+fn last(words: &str, look: &Look) -> String {
+    let lines = wrapped(words, look.columns.map_or(usize::MAX, |columns| columns.max(NARROW)), INDENT);
+    look.colour.paint(Mark::Warning, &lines.join("\n")) + "\n"
+}
+
+/// Returns the text of a row. Its first line begins with the job and the revision.
+fn row(slot: &Filled, lines: &[Line], look: &Look) -> String {
+    let mut text = String::new();
+    let mut before = format!("{:>10} {:>8}", slot.job, slot.revision);
+    for (mark, line) in lines {
+        let line = format!("{before}  {line}");
+        text += &mark.map_or_else(|| line.clone(), |mark| look.colour.paint(mark, &line));
+        text += "\n";
+        before = " ".repeat(before.len());
+    }
+    text
+}
+
+fn lines(slot: &Filled, posting: &Posting, look: &Look) -> Vec<Line> {
+    let mut lines = Vec::new();
+    let mut say = |mark, words: &str| {
+        let width = look.columns.unwrap_or(WIDE).saturating_sub(BEFORE).max(NARROW);
+        lines.extend(wrapped(words, width, INDENT).into_iter().map(|line| (mark, line)));
+    };
+    match &slot.held {
+        Held::Conflict => {
+            say(Some(Mark::Warning), &format!("CONFLICT: {CONFLICT}"));
+            let origin = posting.origins.of(slot.job);
+            let said = origin.map(|origin| sentences(origin, &posting.names)).unwrap_or_default();
+            said.iter().for_each(|words| say(None, words));
+        }
+        Held::Outcome(Outcome::Refused(number)) => {
+            say(Some(Mark::Refusal), &format!("refused {number}: {}", refusal::short(*number)));
+            if look.explain {
+                say(None, &refusal::words(*number));
+            }
+        }
         Held::Outcome(Outcome::Answered(entries)) => {
             let counted = entries.iter().enumerate();
-            counted.map(|(i, entry)| line(entry, &format!("{} of {}", i + 1, entries.len()))).collect()
+            lines.extend(
+                counted.map(|(i, entry)| (None, line(entry, &format!("{} of {}", i + 1, entries.len())))),
+            );
         }
-        Held::Foreign(entries, words) => {
-            let s = if *entries == 1 { "" } else { "s" };
-            vec![format!("{entries} transfer{s}, not the solver's: {words}")]
-        }
+        Held::Foreign(entries, words) => say(Some(Mark::Warning), &foreign(*entries, words)),
     }
+    lines
 }
 
 /// The line of a transfer, with the sizes of its velocities.
 fn line(entry: &Entry, which: &str) -> String {
     let [v1, v2] = [entry.v1, entry.v2].map(|v| speed(size(v), size(v)));
-    format!("{which:<8}  {:<9}  {:>15.12}{v1:>13}{v2:>13}", kind(entry), x_of(entry.chosen()))
+    format!("{which:<8} {:<9} {:>15.12} {v1:>11} {v2:>11}", kind(entry), x_of(entry.chosen()))
 }
+
+#[cfg(test)]
+mod tests;

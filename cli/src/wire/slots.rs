@@ -17,26 +17,42 @@ pub enum Held {
 }
 
 #[derive(Debug, PartialEq)]
-pub struct Filled {
+pub struct Filled<'a> {
+    /// The number of the slot, counted from 1.
+    pub slot: usize,
     pub job: u32,
     pub revision: u32,
+    /// The bytes of the record or of the conflict, without the zeros after them.
+    pub bytes: &'a [u8],
     pub held: Held,
 }
 
 /// Returns the filled slots of a board. A free slot is all zeros.
-pub fn filled(board: &[u8]) -> impl Iterator<Item = Filled> + '_ {
-    board.chunks(ROOM).filter(|slot| u32_at(slot, 0) != 0).map(|slot| {
-        let held = match u16_at(slot, 4) {
-            CONFLICT_KIND => Held::Conflict,
-            _ => outcome(slot),
-        };
-        Filled { job: u32_at(slot, 6), revision: u32_at(slot, 10), held }
+pub fn filled(board: &[u8]) -> impl Iterator<Item = Filled<'_>> {
+    used(board).map(|(slot, bytes)| {
+        let (job, revision) = (u32_at(bytes, 6), u32_at(bytes, 10));
+        Filled { slot, job, revision, bytes, held: held(bytes) }
     })
 }
 
-fn outcome(slot: &[u8]) -> Held {
-    match Record::read(&slot[..4 + u32_at(slot, 0) as usize]) {
+/// Returns the revision that a board holds for a job.
+pub fn revision_of(board: &[u8], job: u32) -> Option<u32> {
+    used(board).find(|(_, bytes)| u32_at(bytes, 6) == job).map(|(_, bytes)| u32_at(bytes, 10))
+}
+
+/// Returns the number and the bytes of each filled slot.
+fn used(board: &[u8]) -> impl Iterator<Item = (usize, &[u8])> {
+    let slots = board.chunks(ROOM).enumerate().map(|(i, slot)| (i + 1, slot, u32_at(slot, 0) as usize));
+    slots.filter(|(.., length)| *length != 0).map(|(number, slot, length)| (number, &slot[..4 + length]))
+}
+
+/// Returns what the bytes of a well-formed record or conflict hold.
+pub fn held(bytes: &[u8]) -> Held {
+    if u16_at(bytes, 4) == CONFLICT_KIND {
+        return Held::Conflict;
+    }
+    match Record::read(bytes) {
         Ok(record) => Held::Outcome(record.outcome),
-        Err((_, words)) => Held::Foreign(u16_at(slot, 14), words),
+        Err((_, words)) => Held::Foreign(u16_at(bytes, 14), words),
     }
 }

@@ -1,0 +1,71 @@
+//! A board as CSV: a line for each transfer, refusal or conflict. Fields that do not apply are empty.
+
+use super::conflict::{foreign, CONFLICT};
+use super::difference;
+use super::origins::Origin;
+use super::posting::Posting;
+use crate::csv::line;
+use crate::orbit::{kind, size, x_of};
+use crate::refusal;
+use crate::wire::slots::{filled, Filled, Held};
+use crate::wire::{Entry, Outcome};
+
+const HEAD: &str = "job,revision,state,number,meaning,transfer,transfers,orbit,x,v1_km_s,v2_km_s,\
+    conflict_file_1,conflict_byte_1,conflict_file_2,conflict_byte_2\n";
+const COLUMNS: usize = 15;
+
+pub fn lines(posting: &Posting) -> String {
+    HEAD.to_string() + &filled(&posting.board).map(|slot| rows(&slot, posting)).collect::<String>()
+}
+
+fn rows(slot: &Filled, posting: &Posting) -> String {
+    let own = [slot.job.to_string(), slot.revision.to_string()];
+    let row = |state: &str, said: Vec<String>| {
+        let mut fields = [&own[..], &[state.into()], &said].concat();
+        fields.resize(COLUMNS, String::new());
+        line(&fields)
+    };
+    match &slot.held {
+        Held::Conflict => row("conflict", conflict(posting.origins.of(slot.job), posting)),
+        Held::Outcome(Outcome::Refused(number)) => {
+            row("refused", vec![number.to_string(), refusal::words(*number)])
+        }
+        Held::Outcome(Outcome::Answered(entries)) => {
+            let which = |i: usize| [(i + 1).to_string(), entries.len().to_string()];
+            let counted = entries.iter().enumerate();
+            counted.map(|(i, entry)| row("answered", transfer(entry, which(i)))).collect()
+        }
+        Held::Foreign(entries, words) => {
+            let none = String::new;
+            row("answered", vec![none(), foreign(*entries, words), none(), entries.to_string()])
+        }
+    }
+}
+
+/// Returns the fields of a transfer after its state.
+fn transfer(entry: &Entry, [transfer, transfers]: [String; 2]) -> Vec<String> {
+    let float = |value: f64| format!("{value:?}");
+    let mut fields = vec![String::new(), String::new(), transfer, transfers, kind(entry).into()];
+    fields.extend([x_of(entry.chosen()), size(entry.v1), size(entry.v2)].map(float));
+    fields
+}
+
+/// Returns the fields of a conflict after its state. The places of records that are not known are empty.
+fn conflict(origin: Option<&Origin>, posting: &Posting) -> Vec<String> {
+    let records = origin.map(|origin| &origin.records[..]).unwrap_or_default();
+    let differ = match records {
+        [one, other] => difference::first(&one.bytes, &other.bytes),
+        _ => None,
+    };
+    let differ = differ.map(|found| format!("; {}", found.sentence())).unwrap_or_default();
+    let mut fields = vec![String::new(), format!("{CONFLICT}{differ}")];
+    fields.resize(COLUMNS - 3 - 4, String::new());
+    for kept in records {
+        let (file, byte) = posting.names.file_and_byte(kept.place);
+        fields.extend([file.into(), byte.to_string()]);
+    }
+    fields
+}
+
+#[cfg(test)]
+mod tests;

@@ -1,0 +1,33 @@
+use super::*;
+use crate::board::posting::tests::{answer, of_files, refusal};
+
+#[test]
+fn each_slot_is_a_line() {
+    let first = [refusal(1, 9), answer(2, &[1.5]), refusal(3, 11)].concat();
+    let second = [refusal(3, 12), refusal(3, 8)].concat();
+    let text = lines(&of_files(&[("a \"b\"\n\u{7f}", first), ("c\\d", second)]));
+    let of = |number| string(&refusal::words(number));
+    let transfer = r#"{"orbit":"ellipse","x":0.0,"k":0,"v1":[1.5,0.0,0.0],"v1_size":1.5,"v2":[0.0,3.0,4.0],"v2_size":5.0}"#;
+    let expected = [
+        format!(r#"{{"job":1,"revision":1,"state":"refused","number":9,"meaning":{}}}"#, of(9)),
+        format!(r#"{{"job":2,"revision":1,"state":"answered","transfers":[{transfer}]}}"#),
+        [
+            r#"{"job":3,"revision":1,"state":"conflict","records":["#,
+            r#"{"file":"a \"b\"\u000a\u007f","byte":96,"state":"refused","number":11,"meaning":"#,
+            &of(11),
+            r#"},{"file":"c\\d","byte":0,"state":"refused","number":12,"meaning":"#,
+            &of(12),
+            r#"}],"first_difference":{"byte":14,"field":"number","values":[11,12]},"more_records":1}"#,
+        ]
+        .concat(),
+    ];
+    assert_eq!(text, expected.join("\n") + "\n");
+}
+
+#[test]
+fn values_that_json_lacks_are_strings() {
+    let posting = of_files(&[("a", [answer(1, &[f64::INFINITY]), answer(1, &[1e300])].concat())]);
+    let text = lines(&posting);
+    assert!(text.contains(r#""field":"v1 x of transfer 1","values":["inf",1e300]"#), "{text}");
+    assert!(text.contains(r#""transfers":null,"fault":"1 transfer, not the solver's: entry 1: "#), "{text}");
+}

@@ -1,0 +1,100 @@
+//! The inputs of records: files, the files of folders, and standard input. They are checked before anything is posted, and opened
+//! one after the other.
+
+use super::names::shown;
+use crate::stop::{tell, Stop};
+use crate::streams::{FileId, Input};
+use crate::words::counted;
+use std::fs::{self, File};
+use std::io;
+use std::os::unix::ffi::OsStrExt;
+use std::path::{Path, PathBuf};
+
+pub struct Source {
+    pub name: String,
+    pub id: Option<FileId>,
+    stream: Stream,
+}
+
+enum Stream {
+    Standard,
+    Closed(PathBuf),
+    /// A pipe or a device. It stays open after the check, because opening it again can lose what its writer has written.
+    Open(Input),
+}
+
+/// Returns the inputs by the names that are given, in this order. A folder stands for the files in it. Fails if one of them
+/// cannot be opened.
+pub fn list(names: &[String]) -> Result<Vec<Source>, Stop> {
+    let standard = || Source { name: "standard input".into(), id: None, stream: Stream::Standard };
+    if names.is_empty() {
+        return Ok(vec![standard()]);
+    }
+    let mut sources = Vec::new();
+    for name in names {
+        let failed = |e| Stop::reading(&shown(name), &e);
+        if name == "-" {
+            sources.push(standard());
+        } else if fs::metadata(name).map_err(failed)?.is_dir() {
+            for path in files_of(name).map_err(failed)? {
+                sources.push(checked(&path)?);
+            }
+        } else {
+            sources.push(checked(Path::new(name))?);
+        }
+    }
+    Ok(sources)
+}
+
+/// Returns the files of a folder in the order of their names: no hidden files, no folders, no pipes and no devices.
+fn files_of(folder: &str) -> io::Result<Vec<PathBuf>> {
+    let (mut files, mut folders) = (Vec::new(), 0);
+    for entry in fs::read_dir(folder)? {
+        let entry = entry?;
+        if entry.file_name().as_bytes().starts_with(b".") {
+            continue;
+        }
+        // A link whose file is missing counts as a file, so that the check finds that it cannot be opened.
+        match fs::metadata(entry.path()) {
+            Ok(about) if about.is_dir() => folders += 1,
+            Ok(about) if !about.is_file() => {}
+            _ => files.push(entry.path()),
+        }
+    }
+    files.sort();
+    if files.is_empty() {
+        tell(&format!("{}: this folder has no file to read", shown(folder)));
+    }
+    if folders > 0 {
+        let are = if folders == 1 { "is" } else { "are" };
+        tell(&format!("{}: {} in this folder {are} not read", shown(folder), counted(folders, "folder")));
+    }
+    Ok(files)
+}
+
+/// Opens a file to check that this is possible, and closes it unless it has to stay open.
+fn checked(path: &Path) -> Result<Source, Stop> {
+    let name = path.to_string_lossy().into_owned();
+    let input = opened(path, &name)?;
+    let regular = input.file.as_ref().is_some_and(|about| about.is_file());
+    let id = input.id();
+    let stream = if regular { Stream::Closed(path.into()) } else { Stream::Open(input) };
+    Ok(Source { name, id, stream })
+}
+
+fn opened(path: &Path, name: &str) -> Result<Input, Stop> {
+    let name = shown(name);
+    let opened = File::open(path).and_then(|file| Ok((file.metadata()?, file)));
+    let (about, file) = opened.map_err(|e| Stop::reading(&name, &e))?;
+    Ok(Input { name, bytes: Box::new(file), file: Some(about) })
+}
+
+impl Source {
+    pub fn open(self) -> Result<Input, Stop> {
+        match self.stream {
+            Stream::Standard => Input::open(None),
+            Stream::Closed(path) => opened(&path, &self.name),
+            Stream::Open(input) => Ok(input),
+        }
+    }
+}

@@ -1,0 +1,58 @@
+use super::*;
+use crate::board::posting::tests::{answer, of_files, refusal};
+
+const PLAIN: Look = Look { columns: None, colour: Colour(false), explain: false };
+
+/// A board with an answer, every refusal, a conflict and an input that was cut short.
+fn board() -> Posting {
+    let refusals: Vec<u8> = (1..=14).flat_map(|number| refusal(100 + number, number)).collect();
+    let answers =
+        [answer(1, &[1.0, 123456.0]), answer(2, &[1.0]), answer(2, &[1e-9]), refusal(0, 1)].concat();
+    of_files(&[("refusals", refusals), ("answers", answers), ("cut", vec![1])])
+}
+
+#[test]
+fn a_row_for_each_transfer_and_refusal() {
+    let posting = board();
+    let text = table(&posting, &PLAIN);
+    let lines: Vec<&str> = text.lines().collect();
+    assert_eq!(lines[1], "         1        1  1 of 2   ellipse    0.000000000000    1.000000    5.000000");
+    assert_eq!(lines[2], "                     2 of 2   ellipse    0.000000000000 123456.000000    5.000000");
+    assert_eq!(lines[3].len(), "         2        1  CONFLICT: ".len() + CONFLICT.len());
+    assert!(
+        lines[5].ends_with("answers, byte 224: 1 transfer: ellipse, v1 1.00000e-9 km/s, v2 5.000000 km/s")
+    );
+    assert_eq!(lines[6].trim(), "they differ first at byte 32, v1 x of transfer 1: 1 and 1e-9");
+    for number in 1..=14 {
+        let words = format!("refused {number}: {}", refusal::short(number));
+        assert_eq!(lines[6 + number as usize], format!("{:>10}        1  {words}", 100 + number));
+    }
+    assert_eq!(lines[21], "16 of 64 slots filled: 1 answered, 14 refused, 1 in conflict");
+    let missing = "INCOMPLETE: 1 of 18 records has job 0 (B2); cut could not be read to its end";
+    assert_eq!(lines[22..], [missing]);
+}
+
+#[test]
+fn lines_fit_the_width() {
+    let posting = board();
+    for (columns, widest) in [(Some(80), 80), (Some(100), 100), (Some(1), 79), (None, 142)] {
+        for explain in [false, true] {
+            let text = table(&posting, &Look { columns, explain, ..PLAIN });
+            let wide: Vec<&str> = text.lines().filter(|line| line.len() > widest).collect();
+            // A speed of 123456 km/s is one digit too wide for its column.
+            assert!(wide.iter().all(|line| line.contains("123456.000000")), "{wide:?}");
+            let words: Vec<&str> = text.split_whitespace().collect();
+            let words = words.join(" ");
+            assert!(words.contains(&refusal::short(12)) && words.contains("(B2); cut could not be read"));
+            assert_eq!(words.contains(&refusal::words(11)), explain);
+        }
+    }
+}
+
+#[test]
+fn what_matters_is_coloured() {
+    let text = table(&board(), &Look { colour: Colour(true), ..PLAIN });
+    let coloured = |code: &str| text.lines().filter(|line| line.starts_with(code)).count();
+    assert_eq!((coloured("\x1b[33m"), coloured("\x1b[1;31m")), (14, 2));
+    assert!(text.ends_with("cut could not be read to its end\x1b[0m\n"));
+}
