@@ -16,10 +16,8 @@ pub const CONFLICT: &str = "different records came for this revision; only a hig
 pub fn sentences(origin: &Origin, names: &Names) -> Vec<String> {
     let mut said = Vec::new();
     if let Some(slot) = origin.conflict_in {
-        said.push(format!(
-            "{}, slot {slot}: in conflict on the stored board already; a board does not keep the records of a conflict",
-            shown(&names.stored)
-        ));
+        let why = "which records caused it is not known, because a board does not keep them";
+        said.push(format!("{}, slot {slot}: in conflict already; {why}", shown(&names.stored)));
     }
     let records = origin.records.iter();
     said.extend(records.map(|kept| format!("{}: {}", names.place(kept.place), phrase(&held(&kept.bytes)))));

@@ -15,7 +15,7 @@ pub struct Difference {
 impl Difference {
     pub fn sentence(&self) -> String {
         let Difference { byte, field, values: [one, other] } = self;
-        format!("they differ first at byte {byte}, {field}: {one} and {other}")
+        format!("they differ first at byte {byte} of the record, {field}: {one} and {other}")
     }
 }
 
@@ -108,7 +108,8 @@ mod tests {
             (104, &1e300f64.to_le_bytes(), "byte 104, v1 y of transfer 2: 0 and 1e300"),
             (136, &(-0.0f64).to_le_bytes(), "byte 136, v2 z of transfer 2: 0 and -0"),
         ] {
-            assert_eq!(changed(at, value), format!("they differ first at {words}"));
+            let (byte, field) = words.split_once(", ").expect("a byte and a field");
+            assert_eq!(changed(at, value), format!("they differ first at {byte} of the record, {field}"));
         }
         assert_eq!(first(&answer(), &answer()), None);
     }
@@ -124,8 +125,8 @@ mod tests {
     fn two_refusals_differ_in_their_numbers() {
         let refusal = |number| [12, 0, 0, 0, 3, 0, 7, 0, 0, 0, 1, 0, 0, 0, number, 0];
         let found = first(&refusal(9), &refusal(11)).expect("a difference");
-        assert_eq!(found.sentence(), "they differ first at byte 14, number: 9 and 11");
+        assert_eq!(found.sentence(), "they differ first at byte 14 of the record, number: 9 and 11");
         let found = first(&answer(), &refusal(11)).expect("a difference");
-        assert_eq!(found.sentence(), "they differ first at byte 0, length: 140 and 12");
+        assert_eq!(found.sentence(), "they differ first at byte 0 of the record, length: 140 and 12");
     }
 }

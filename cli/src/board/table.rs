@@ -14,8 +14,8 @@ use crate::words::wrapped;
 const HEAD: &str = "       job revision  transfer orbit     x of chosen end     v1 km/s     v2 km/s\n";
 /// The width of the columns before the transfer.
 const BEFORE: usize = 21;
-/// The width of a table whose width is not given. Each refusal fits one line of it.
-const WIDE: usize = 142;
+/// The width at which the full meaning of a refusal is broken into lines if no width is given. Other lines are then not broken.
+const WIDE: usize = 120;
 /// The least width at which words are broken into lines.
 const NARROW: usize = 30;
 const INDENT: &str = "  ";
@@ -70,33 +70,35 @@ fn row(slot: &Filled, lines: &[Line], look: &Look) -> String {
 }
 
 fn lines(slot: &Filled, posting: &Posting, look: &Look) -> Vec<Line> {
-    let mut lines = Vec::new();
-    let mut say = |mark, words: &str| {
-        let width = look.columns.unwrap_or(WIDE).saturating_sub(BEFORE).max(NARROW);
-        lines.extend(wrapped(words, width, INDENT).into_iter().map(|line| (mark, line)));
-    };
+    let say = |mark, words: &str| marked(mark, words, look.columns);
     match &slot.held {
         Held::Conflict => {
-            say(Some(Mark::Warning), &format!("CONFLICT: {CONFLICT}"));
             let origin = posting.origins.of(slot.job);
             let said = origin.map(|origin| sentences(origin, &posting.names)).unwrap_or_default();
-            said.iter().for_each(|words| say(None, words));
+            let mut lines = say(Some(Mark::Warning), &format!("CONFLICT: {CONFLICT}"));
+            lines.extend(said.iter().flat_map(|words| say(None, words)));
+            lines
         }
         Held::Outcome(Outcome::Refused(number)) => {
-            say(Some(Mark::Refusal), &format!("refused {number}: {}", refusal::short(*number)));
+            let mut lines =
+                say(Some(Mark::Refusal), &format!("refused {number}: {}", refusal::short(*number)));
             if look.explain {
-                say(None, &refusal::words(*number));
+                lines.extend(marked(None, &refusal::words(*number), look.columns.or(Some(WIDE))));
             }
+            lines
         }
         Held::Outcome(Outcome::Answered(entries)) => {
-            let counted = entries.iter().enumerate();
-            lines.extend(
-                counted.map(|(i, entry)| (None, line(entry, &format!("{} of {}", i + 1, entries.len())))),
-            );
+            let which = |i: usize| format!("{} of {}", i + 1, entries.len());
+            entries.iter().enumerate().map(|(i, entry)| (None, line(entry, &which(i)))).collect()
         }
         Held::Foreign(entries, words) => say(Some(Mark::Warning), &foreign(*entries, words)),
     }
-    lines
+}
+
+/// Breaks words into lines that fit the table's columns, if their number is given.
+fn marked(mark: Option<Mark>, words: &str, columns: Option<usize>) -> Vec<Line> {
+    let width = columns.map_or(usize::MAX, |columns| columns.saturating_sub(BEFORE).max(NARROW));
+    wrapped(words, width, INDENT).into_iter().map(|line| (mark, line)).collect()
 }
 
 /// The line of a transfer, with the sizes of its velocities.

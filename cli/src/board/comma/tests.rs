@@ -13,7 +13,7 @@ fn each_transfer_refusal_and_conflict_is_a_line() {
         assert_eq!(row.fields.len(), COLUMNS);
         found.push(row.fields.join("|"));
     }
-    let conflict = format!("{CONFLICT}; they differ first at byte 14, number: 11 and 12");
+    let conflict = format!("{CONFLICT}; they differ first at byte 14 of the record, number: 11 and 12");
     let expected = [
         HEAD.trim_end().replace(',', "|"),
         format!("1|1|refused|9|{}||||||||||", refusal::words(9)),

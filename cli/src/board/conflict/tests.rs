@@ -17,7 +17,7 @@ fn both_records_and_their_difference_are_named() {
          v2 5.000000 km/s",
         "b, byte 0: 2 transfers: ellipse, v1 6.752090 km/s, v2 5.000000 km/s; ellipse, v1 7.000000 km/s, \
          v2 5.000000 km/s",
-        "they differ first at byte 32, v1 x of transfer 1: 6.752089 and 6.752090000001",
+        "they differ first at byte 32 of the record, v1 x of transfer 1: 6.752089 and 6.752090000001",
         "2 more records for this revision differ from both",
     ];
     assert_eq!(said(&posting, 2), expected);
@@ -35,11 +35,13 @@ fn a_stored_board_is_named() {
     let of_one = [
         format!("old.board, slot 1: refused 11: nothing was found among the shapes searched; {not_said}"),
         format!("new, byte 0: refused 9: the positions are too close together; {not_said}"),
-        "they differ first at byte 14, number: 11 and 9".into(),
+        "they differ first at byte 14 of the record, number: 11 and 9".into(),
     ];
     assert_eq!(said(&posting, 1), of_one);
     let of_two = said(&posting, 2);
-    assert!(of_two[0].starts_with("old.board, slot 2: in conflict on the stored board already; "));
+    assert!(
+        of_two[0].starts_with("old.board, slot 2: in conflict already; which records caused it is not known")
+    );
     assert!(of_two.len() == 2 && of_two[1].starts_with("new, byte 16: refused 8: "));
 }
 

@@ -22,7 +22,7 @@ fn a_row_for_each_transfer_and_refusal() {
     assert!(
         lines[5].ends_with("answers, byte 224: 1 transfer: ellipse, v1 1.00000e-9 km/s, v2 5.000000 km/s")
     );
-    assert_eq!(lines[6].trim(), "they differ first at byte 32, v1 x of transfer 1: 1 and 1e-9");
+    assert_eq!(lines[6].trim(), "they differ first at byte 32 of the record, v1 x of transfer 1: 1 and 1e-9");
     for number in 1..=14 {
         let words = format!("refused {number}: {}", refusal::short(number));
         assert_eq!(lines[6 + number as usize], format!("{:>10}        1  {words}", 100 + number));
