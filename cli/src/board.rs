@@ -28,9 +28,9 @@ const FLAGS: [&str; 5] = ["--strict", "--bytes", "--json", "--csv", "--explain"]
 /// if `--strict` is given and the board has a conflict. It opens the output after it has read all inputs.
 pub fn run(words: &[String]) -> Result<u8, Stop> {
     let options = Options::read(words, &FLAGS, &["--board", "-o"])?;
-    options.apart("--json", &["--csv", "--bytes", "--explain"])?;
-    options.apart("--csv", &["--bytes", "--explain"])?;
-    options.apart("--bytes", &["--explain"])?;
+    options.apart("--csv", &["--json", "--bytes", "--explain"])?;
+    options.apart("--bytes", &["--json", "--explain"])?;
+    options.apart("--json", &["--explain"])?;
     let stored_name = options.value("--board");
     if stored_name == Some("-") && (options.files.is_empty() || options.files.iter().any(|name| name == "-"))
     {

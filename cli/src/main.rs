@@ -11,6 +11,7 @@ mod csv;
 mod expected;
 mod fields;
 mod help;
+mod json;
 mod mistakes;
 mod opm;
 mod options;
@@ -20,7 +21,6 @@ mod propagation;
 #[allow(unsafe_code)]
 mod proved;
 mod refusal;
-mod rows;
 mod show;
 mod similar;
 mod solve;

@@ -26,6 +26,15 @@ pub fn number(value: f64) -> String {
     }
 }
 
+/// Returns a component of a velocity of this size: six decimals, or an exponent if six decimals do not suit the size.
+pub fn component(part: f64, size: f64) -> String {
+    if size == 0.0 || (0.01..1e6).contains(&size) {
+        format!("{part:.6}")
+    } else {
+        format!("{part:.5e}")
+    }
+}
+
 /// Returns a time in seconds as a number in the unit that suits it: s, min, h or d.
 pub fn duration(seconds: f64) -> String {
     let (size, unit) = match seconds {
@@ -90,6 +99,11 @@ mod tests {
     fn numbers_are_short() {
         assert_eq!([0.0, 7000.0, 0.1, 1e300, 2e-9].map(number), ["0", "7000", "0.1", "1e300", "2e-9"]);
         assert_eq!(number(f64::NAN), "NaN");
+    }
+
+    #[test]
+    fn components_keep_digits_that_suit_the_size() {
+        assert_eq!((component(1e-5, 1e-5), component(3.0, 5.0)), ("1.00000e-5".into(), "3.000000".into()));
     }
 
     #[test]

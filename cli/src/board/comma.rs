@@ -10,7 +10,7 @@ use crate::refusal;
 use crate::wire::slots::{filled, Filled, Held};
 use crate::wire::{Entry, Outcome};
 
-const HEAD: &str = "job,revision,state,number,meaning,transfer,transfers,orbit,x,v1_km_s,v2_km_s,\
+const HEAD: &str = "job,revision,state,number,meaning,transfer,transfers,orbit,x,v1_size_km_s,v2_size_km_s,\
     conflict_file_1,conflict_byte_1,conflict_file_2,conflict_byte_2\n";
 const COLUMNS: usize = 15;
 

@@ -5,9 +5,9 @@ use super::names::{shown, Names};
 use super::origins::Origin;
 use crate::orbit::{kind, size};
 use crate::refusal;
-use crate::rows::speed;
 use crate::wire::slots::{held, Held};
 use crate::wire::{Entry, Outcome};
+use crate::words::component;
 use crate::words::counted;
 
 pub const CONFLICT: &str = "different records came for this revision; only a higher revision clears it";
@@ -45,7 +45,7 @@ fn phrase(held: &Held) -> String {
 }
 
 fn transfer(entry: &Entry) -> String {
-    let [v1, v2] = [entry.v1, entry.v2].map(|v| speed(size(v), size(v)));
+    let [v1, v2] = [entry.v1, entry.v2].map(|v| component(size(v), size(v)));
     format!("{}, v1 {v1} km/s, v2 {v2} km/s", kind(entry))
 }
 

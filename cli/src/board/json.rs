@@ -1,11 +1,11 @@
-//! A board as JSON: an object for each filled slot, on one line. Floats are written with enough digits to read back as the same
-//! bits.
+//! A board as JSON: an object for each filled slot, on one line.
 
 use super::conflict::foreign;
 use super::difference::{first, Difference};
 use super::names::Names;
 use super::origins::{Kept, Origin, Place};
 use super::posting::Posting;
+use crate::json::{array, number, object, string};
 use crate::orbit::{kind, size, x_of};
 use crate::refusal;
 use crate::wire::slots::{filled, held, Filled, Held};
@@ -14,7 +14,7 @@ use crate::wire::{Entry, Outcome};
 type Fields = Vec<(&'static str, String)>;
 
 pub fn lines(posting: &Posting) -> String {
-    filled(&posting.board).map(|slot| object(&fields(&slot, posting)) + "\n").collect()
+    filled(&posting.board).map(|slot| object(fields(&slot, posting)) + "\n").collect()
 }
 
 fn fields(slot: &Filled, posting: &Posting) -> Fields {
@@ -31,12 +31,12 @@ fn outcome(held: &Held) -> Fields {
     let state = |name| ("state", string(name));
     match held {
         Held::Conflict => vec![state("conflict")],
-        Held::Outcome(Outcome::Refused(number)) => {
-            let meaning = string(&refusal::words(*number));
-            vec![state("refused"), ("number", number.to_string()), ("meaning", meaning)]
+        Held::Outcome(Outcome::Refused(reason)) => {
+            let meaning = string(&refusal::words(*reason));
+            vec![state("refused"), ("number", reason.to_string()), ("meaning", meaning)]
         }
         Held::Outcome(Outcome::Answered(entries)) => {
-            vec![state("answered"), ("transfers", list(entries.iter().map(transfer)))]
+            vec![state("answered"), ("transfers", array(entries.iter().map(transfer)))]
         }
         Held::Foreign(entries, words) => {
             vec![
@@ -53,9 +53,9 @@ fn conflict(origin: &Origin, names: &Names) -> Fields {
     let mut fields = Vec::new();
     if let Some(slot) = origin.conflict_in {
         let stored = [("file", string(&names.stored)), ("slot", slot.to_string())];
-        fields.push(("stored_conflict", object(&stored)));
+        fields.push(("stored_conflict", object(stored)));
     }
-    fields.push(("records", list(origin.records.iter().map(|kept| record(kept, names)))));
+    fields.push(("records", array(origin.records.iter().map(|kept| record(kept, names)))));
     if let [one, other] = &origin.records[..] {
         fields.extend(first(&one.bytes, &other.bytes).map(|found| ("first_difference", difference(&found))));
     }
@@ -70,56 +70,27 @@ fn record(kept: &Kept, names: &Names) -> String {
         fields.push(("slot", slot.to_string()));
     }
     fields.extend(outcome(&held(&kept.bytes)));
-    object(&fields)
+    object(fields)
 }
 
 fn difference(found: &Difference) -> String {
     let values = found.values.iter().map(|value| match value.parse::<f64>() {
-        Ok(number) if number.is_finite() => value.clone(),
+        Ok(float) if float.is_finite() => value.clone(),
         _ => string(value),
     });
-    object(&[("byte", found.byte.to_string()), ("field", string(&found.field)), ("values", list(values))])
+    object([("byte", found.byte.to_string()), ("field", string(&found.field)), ("values", array(values))])
 }
 
 fn transfer(entry: &Entry) -> String {
-    object(&[
+    object([
         ("orbit", string(kind(entry))),
-        ("x", float(x_of(entry.chosen()))),
+        ("x", number(x_of(entry.chosen()))),
         ("k", entry.chosen().to_string()),
-        ("v1", list(entry.v1.into_iter().map(float))),
-        ("v1_size", float(size(entry.v1))),
-        ("v2", list(entry.v2.into_iter().map(float))),
-        ("v2_size", float(size(entry.v2))),
+        ("v1_km_s", array(entry.v1.into_iter().map(number))),
+        ("v1_size_km_s", number(size(entry.v1))),
+        ("v2_km_s", array(entry.v2.into_iter().map(number))),
+        ("v2_size_km_s", number(size(entry.v2))),
     ])
-}
-
-fn object(fields: &[(&str, String)]) -> String {
-    let fields: Vec<String> = fields.iter().map(|(name, value)| format!("\"{name}\":{value}")).collect();
-    format!("{{{}}}", fields.join(","))
-}
-
-fn list(values: impl Iterator<Item = String>) -> String {
-    format!("[{}]", values.collect::<Vec<String>>().join(","))
-}
-
-/// Returns a number as JSON. The components of a velocity are finite, but its size may not be; JSON has no infinity, so that is
-/// written as a string.
-fn float(value: f64) -> String {
-    if value.is_finite() {
-        format!("{value:?}")
-    } else {
-        format!("\"{value}\"")
-    }
-}
-
-/// Returns a JSON string. A file name can have any character.
-fn string(words: &str) -> String {
-    let escaped = words.chars().map(|c| match c {
-        '"' | '\\' => format!("\\{c}"),
-        c if c.is_control() => format!("\\u{:04x}", u32::from(c)),
-        c => c.into(),
-    });
-    format!("\"{}\"", escaped.collect::<String>())
 }
 
 #[cfg(test)]

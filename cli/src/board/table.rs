@@ -5,10 +5,10 @@ use super::conflict::{foreign, sentences, CONFLICT};
 use super::posting::Posting;
 use crate::orbit::{kind, size, x_of};
 use crate::refusal;
-use crate::rows::speed;
 use crate::terminal::{Colour, Mark};
 use crate::wire::slots::{filled, Filled, Held, SLOTS};
 use crate::wire::{Entry, Outcome};
+use crate::words::component;
 use crate::words::wrapped;
 
 const HEAD: &str = "       job revision  transfer orbit     x of chosen end     v1 km/s     v2 km/s\n";
@@ -103,7 +103,7 @@ fn marked(mark: Option<Mark>, words: &str, columns: Option<usize>) -> Vec<Line> 
 
 /// The line of a transfer, with the sizes of its velocities.
 fn line(entry: &Entry, which: &str) -> String {
-    let [v1, v2] = [entry.v1, entry.v2].map(|v| speed(size(v), size(v)));
+    let [v1, v2] = [entry.v1, entry.v2].map(|v| component(size(v), size(v)));
     format!("{which:<8} {:<9} {:>15.12} {v1:>11} {v2:>11}", kind(entry), x_of(entry.chosen()))
 }
 

@@ -2,10 +2,10 @@
 
 use super::facts::{Facts, Surface};
 use super::item::Transfer;
-use super::numbers::{component, distance};
+use super::numbers::distance;
 use super::pairs::Asked;
 use crate::orbit::{end, size, x_of};
-use crate::words;
+use crate::words::{self, component};
 
 /// Returns what was asked.
 pub fn asked(asked: &Asked) -> Vec<String> {

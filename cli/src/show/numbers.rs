@@ -27,15 +27,6 @@ pub fn miss(m: Option<f64>) -> String {
     }
 }
 
-/// Returns a component of a velocity of this size: six decimals, or an exponent if six decimals do not suit the size.
-pub fn component(part: f64, size: f64) -> String {
-    if size == 0.0 || (0.01..1e6).contains(&size) {
-        format!("{part:.6}")
-    } else {
-        format!("{part:.5e}")
-    }
-}
-
 #[cfg(test)]
 mod tests {
     use super::*;
@@ -47,6 +38,5 @@ mod tests {
         assert_eq!([10.04461, 0.5, 123_456.0, 1e-5].map(speed), ["10.0446", "0.5000", "1.23e5", "1.00e-5"]);
         let found = [Some(0.01234), Some(160.4), Some(2e6), None].map(miss);
         assert_eq!(found, ["0.012", "160", "2.0e6", "?"]);
-        assert_eq!((component(1e-5, 1e-5), component(3.0, 5.0)), ("1.00000e-5".into(), "3.000000".into()));
     }
 }

@@ -7,7 +7,7 @@ fn each_slot_is_a_line() {
     let second = [refusal(3, 12), refusal(3, 8)].concat();
     let text = lines(&of_files(&[("a \"b\"\n\u{7f}", first), ("c\\d", second)]));
     let of = |number| string(&refusal::words(number));
-    let transfer = r#"{"orbit":"ellipse","x":0.0,"k":0,"v1":[1.5,0.0,0.0],"v1_size":1.5,"v2":[0.0,3.0,4.0],"v2_size":5.0}"#;
+    let transfer = r#"{"orbit":"ellipse","x":0.0,"k":0,"v1_km_s":[1.5,0.0,0.0],"v1_size_km_s":1.5,"v2_km_s":[0.0,3.0,4.0],"v2_size_km_s":5.0}"#;
     let expected = [
         format!(r#"{{"job":1,"revision":1,"state":"refused","number":9,"meaning":{}}}"#, of(9)),
         format!(r#"{{"job":2,"revision":1,"state":"answered","transfers":[{transfer}]}}"#),
