@@ -1,6 +1,7 @@
 //! The arc of a transfer from r1 to r2, as two-body motion gives it from r1 and v1. This is for display: it is tested, not proved.
 
 use crate::orbit::{kind, size};
+use crate::propagation::inverse_axis;
 use crate::wire::{Entry, Question};
 use std::f64::consts::TAU;
 
@@ -80,12 +81,10 @@ impl Arc {
     }
 }
 
-/// Returns half the length of an ellipse in km, or `None` if the orbit is not an ellipse or too long for an f64. It follows from the
-/// energy at the end that is farther from the centre, because fewer digits are lost there.
+/// Returns half the length of an ellipse in km, or `None` if the orbit is not an ellipse or if v1 is too close to the speed of a
+/// parabola for an f64 to tell.
 fn semimajor_axis(question: &Question, entry: &Entry) -> Option<f64> {
-    let [first, second] = [(question.r1, entry.v1), (question.r2, entry.v2)].map(|(r, v)| (size(r), size(v)));
-    let (radius, speed) = if second.0 > first.0 { second } else { first };
-    let a = radius / (2.0 - radius * speed * speed / question.mu);
+    let a = size(question.r1) / inverse_axis(question.mu, question.r1, entry.v1);
     Some(a).filter(|a| kind(entry) == "ellipse" && a.is_finite() && *a > 0.0)
 }
 

@@ -86,8 +86,8 @@ impl Orbit {
 }
 
 /// Returns |r| divided by the semimajor axis: 2 − |r|·v²/mu. The product is computed with twice the digits, because on a long ellipse
-/// the difference is small and the flight time depends on it.
-fn inverse_axis(mu: f64, r: [f64; 3], v: [f64; 3]) -> f64 {
+/// the difference is small, and the flight time and the apogee depend on it.
+pub fn inverse_axis(mu: f64, r: [f64; 3], v: [f64; 3]) -> f64 {
     let (radius_square, radius_rest) = square(r);
     let (speed_square, speed_rest) = square(v);
     let radius = radius_square.sqrt();
