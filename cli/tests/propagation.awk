@@ -1,14 +1,15 @@
 # awk -f cli/tests/propagation.awk CSV
 #
 # Reads the output of 'lambert-cli show --csv --questions' and flies every transfer by a plain integration of r'' = -mu r/|r|^3. Exits
-# with status 1 at the first transfer whose lowest point, perigee, apogee, eccentricity, inclination, arrival or surface disagrees.
-# Refusals are not flown.
+# with status 1 at the first transfer whose lowest point, perigee, apogee, eccentricity, inclination, miss or surface disagrees.
+# Refusals are not flown. The transfers should be like those of missions: with numbers from anywhere in the allowed ranges, some are so
+# sensitive that rounding spoils the integration.
 #
 # The integration is a Runge-Kutta method of order 6 (Butcher's, with 7 stages). A step is a part of sqrt(r^3/mu), so a revolution has
 # about 2 pi/part steps. The part is halved until the arrival changes by less than FINE of |r2|, or down to SHORTEST. The error that
 # is left is smaller than the last change, by a factor of 63 if the steps are short. So the tolerance of a number is its last change
-# and, for rounding, ROUNDING of the number; the miss is taken as a part of |r2|. If the arrival still changes by more than COARSE of |r2|, the
-# flight is too sensitive to judge. That is a failure if it happens to more than 1 in 20 transfers.
+# and, for rounding, ROUNDING of the number; the miss is taken as a part of |r2|. If the arrival still changes by more than COARSE of
+# |r2|, the flight is too sensitive to judge. That is a failure if it happens to more than 1 in 20 transfers.
 
 BEGIN {
     FINE = 1e-8; COARSE = 1e-4; ROUNDING = 1e-9; SHORTEST = 1 / 128
@@ -32,7 +33,7 @@ NR == 1 {
 cell[column["outcome"]] == "answered" {
     transfer = "line " NR ", job " text("job") ", revision " text("revision") ", transfer " text("transfer")
     transfers++
-    mu = number("mu_km3_s2")
+    read_plane()
     check_shape()
     fly_finer()
     if (change > COARSE * r2) {
@@ -45,6 +46,7 @@ cell[column["outcome"]] == "answered" {
 
 END {
     if (failed) exit 1
+    if (!transfers) fail("there are no transfers")
     if (sensitive > transfers / 20) fail(sensitive " of " transfers " transfers are too sensitive to judge")
     print transfers - sensitive " transfers agree with the integration, " sensitive + 0 " are too sensitive to judge"
 }
@@ -83,133 +85,120 @@ function distance(a, b, c) { return sqrt(a * a + b * b + c * c) }
 
 # Flies the transfer with finer and finer steps. Sets the numbers of the last flight and their last changes.
 function fly_finer(    part) {
-    r2 = distance(number("r2_x_km"), number("r2_y_km"), number("r2_z_km"))
     fly(1 / 16)
     for (part = 1 / 32; part >= SHORTEST; part /= 2) {
-        end_x = x; end_y = y; end_z = z; low = lowest; inner = perigee; outer = apogee
+        end_x = x; end_y = y; low = lowest; inner = perigee; outer = apogee
         fly(part)
-        change = distance(x - end_x, y - end_y, z - end_z)
+        change = distance(x - end_x, y - end_y, 0)
         if (change <= FINE * r2) break
     }
 }
 
+# Reads the transfer in the plane of its motion: r1 is (r1, 0), v1 is (v1_x, v1_y), and r2 is (r2_x, r2_y), r2_z outside the plane.
+function read_plane(    a, b, c, d, e, f, g, h, i, p, q, s) {
+    a = number("r1_x_km"); b = number("r1_y_km"); c = number("r1_z_km")
+    d = number("v1_x_km_s"); e = number("v1_y_km_s"); f = number("v1_z_km_s")
+    g = number("r2_x_km"); h = number("r2_y_km"); i = number("r2_z_km")
+    mu = number("mu_km3_s2")
+    r1 = distance(a, b, c); r2 = distance(g, h, i)
+    a /= r1; b /= r1; c /= r1
+    p = b * f - c * e; q = c * d - a * f; s = a * e - b * d
+    v1_x = a * d + b * e + c * f
+    v1_y = distance(p, q, s)
+    p /= v1_y; q /= v1_y; s /= v1_y
+    inclination = atan2(distance(p, q, 0), s) * 180 / PI
+    r2_x = a * g + b * h + c * i
+    r2_y = (q * c - s * b) * g + (s * a - p * c) * h + (p * b - q * a) * i
+    r2_z = p * g + q * h + s * i
+}
+
 function fly(part,    left, h, before) {
-    x = number("r1_x_km"); y = number("r1_y_km"); z = number("r1_z_km")
-    u = number("v1_x_km_s"); v = number("v1_y_km_s"); w = number("v1_z_km_s")
+    x = r1; y = 0; u = v1_x; v = v1_y
+    lost_x = lost_y = lost_u = lost_v = perigee = apogee = 0
+    r = lowest = r1
     left = number("time_s")
-    lost_x = lost_y = lost_z = lost_u = lost_v = lost_w = 0
-    r = lowest = distance(x, y, z)
-    perigee = apogee = 0
     while (left > 0) {
-        before = x * u + y * v + z * w
+        before = x * u + y * v
         h = part * r * sqrt(r / mu)
         if (h >= left) h = left
         step(h)
         left -= h
-        r = distance(x, y, z)
+        r = sqrt(x * x + y * y)
         if (r < lowest) lowest = r
-        if ((before < 0) != (x * u + y * v + z * w < 0)) turn(h)
+        if ((before < 0) != (x * u + y * v < 0)) turn(h)
     }
     if (perigee && perigee < lowest) lowest = perigee
 }
 
 # Sets the perigee or apogee that was passed in the last step. A step goes back to about there. A circular orbit has neither.
-function turn(h,    back, found) {
+function turn(h,    back, found, x0, y0, u0, v0, x1, y1, u1, v1) {
     back = -radial() / radial_rate()
     if (back > 0 || back < -2 * h) return
-    keep(kept)
+    x0 = x; y0 = y; u0 = u; v0 = v; x1 = lost_x; y1 = lost_y; u1 = lost_u; v1 = lost_v
     step(back)
-    found = distance(x, y, z) - radial() ^ 2 / (2 * radial_rate())
+    found = sqrt(x * x + y * y) - radial() ^ 2 / (2 * radial_rate())
     if (radial_rate() < 0) apogee = found
     else perigee = found
-    x = kept["x"]; y = kept["y"]; z = kept["z"]; u = kept["u"]; v = kept["v"]; w = kept["w"]
-    lost_x = kept["lost_x"]; lost_y = kept["lost_y"]; lost_z = kept["lost_z"]
-    lost_u = kept["lost_u"]; lost_v = kept["lost_v"]; lost_w = kept["lost_w"]
+    x = x0; y = y0; u = u0; v = v0; lost_x = x1; lost_y = y1; lost_u = u1; lost_v = v1
 }
 
-function keep(kept) {
-    kept["x"] = x; kept["y"] = y; kept["z"] = z; kept["u"] = u; kept["v"] = v; kept["w"] = w
-    kept["lost_x"] = lost_x; kept["lost_y"] = lost_y; kept["lost_z"] = lost_z
-    kept["lost_u"] = lost_u; kept["lost_v"] = lost_v; kept["lost_w"] = lost_w
-}
-
-function radial() { return (x * u + y * v + z * w) / distance(x, y, z) }
+function radial() { return (x * u + y * v) / sqrt(x * x + y * y) }
 
 # Returns the rate of the radial speed. It is never 0, so that it can divide.
-function radial_rate(    r, rate) {
-    r = distance(x, y, z)
-    rate = (u * u + v * v + w * w - radial() ^ 2) / r - mu / (r * r)
+function radial_rate(    s, rate) {
+    s = x * x + y * y
+    rate = ((x * v - y * u) ^ 2 / s - mu / sqrt(s)) / sqrt(s)
     return rate == 0 ? 1e-300 : rate
-}
-
-# Returns the acceleration at a position, divided by the position.
-function pull(x, y, z,    s) {
-    s = x * x + y * y + z * z
-    return -mu / (s * sqrt(s))
 }
 
 # Moves the state by one step. The stages are written with their accelerations a to g. What a sum loses by rounding is kept for the
 # next step, because over thousands of steps it adds up.
-function step(h,    k, p, q, s, f, ax, ay, az, bx, by, bz, cx, cy, cz, dx, dy, dz, ex, ey, ez, fx, fy, fz, gx, gy, gz) {
-    f = pull(x, y, z); ax = f * x; ay = f * y; az = f * z
+function step(h,    k, p, q, s, ax, ay, bx, by, cx, cy, dx, dy, ex, ey, fx, fy, gx, gy) {
+    s = x * x + y * y; s = -mu / (s * sqrt(s)); ax = s * x; ay = s * y
     k = h / 3
-    p = x + k * u; q = y + k * v; s = z + k * w
-    f = pull(p, q, s); bx = f * p; by = f * q; bz = f * s
+    p = x + k * u; q = y + k * v
+    s = p * p + q * q; s = -mu / (s * sqrt(s)); bx = s * p; by = s * q
     k = h * h / 18
-    p += k * (2 * ax - bx); q += k * (2 * ay - by); s += k * (2 * az - bz)
-    f = pull(p, q, s); dx = f * p; dy = f * q; dz = f * s
+    p += k * (2 * ax - bx); q += k * (2 * ay - by)
+    s = p * p + q * q; s = -mu / (s * sqrt(s)); dx = s * p; dy = s * q
     k = 2 * h / 3
-    p = x + k * (u + h / 3 * ax); q = y + k * (v + h / 3 * ay); s = z + k * (w + h / 3 * az)
-    f = pull(p, q, s); cx = f * p; cy = f * q; cz = f * s
+    p = x + k * (u + h / 3 * ax); q = y + k * (v + h / 3 * ay)
+    s = p * p + q * q; s = -mu / (s * sqrt(s)); cx = s * p; cy = s * q
     k = h / 16
-    p = x + h / 2 * (u + k * (11 * ax - 8 * bx + cx))
-    q = y + h / 2 * (v + k * (11 * ay - 8 * by + cy))
-    s = z + h / 2 * (w + k * (11 * az - 8 * bz + cz))
-    f = pull(p, q, s); ex = f * p; ey = f * q; ez = f * s
-    p = x + h / 2 * (u + k * (9 * ax + 2 * bx - cx - 6 * dx))
-    q = y + h / 2 * (v + k * (9 * ay + 2 * by - cy - 6 * dy))
-    s = z + h / 2 * (w + k * (9 * az + 2 * bz - cz - 6 * dz))
-    f = pull(p, q, s); fx = f * p; fy = f * q; fz = f * s
+    p = x + h / 2 * (u + k * (11 * ax - 8 * bx + cx)); q = y + h / 2 * (v + k * (11 * ay - 8 * by + cy))
+    s = p * p + q * q; s = -mu / (s * sqrt(s)); ex = s * p; ey = s * q
+    p = x + h / 2 * (u + k * (9 * ax + 2 * bx - cx - 6 * dx)); q = y + h / 2 * (v + k * (9 * ay + 2 * by - cy - 6 * dy))
+    s = p * p + q * q; s = -mu / (s * sqrt(s)); fx = s * p; fy = s * q
     k = h / 22
-    p = x + h * (u + k * (9 * cx - 3 * ax - 3 * bx + 24 * dx - 16 * ex))
-    q = y + h * (v + k * (9 * cy - 3 * ay - 3 * by + 24 * dy - 16 * ey))
-    s = z + h * (w + k * (9 * cz - 3 * az - 3 * bz + 24 * dz - 16 * ez))
-    f = pull(p, q, s); gx = f * p; gy = f * q; gz = f * s
+    p = x + h * (u + k * (9 * cx - 3 * (ax + bx) + 24 * dx - 16 * ex))
+    q = y + h * (v + k * (9 * cy - 3 * (ay + by) + 24 * dy - 16 * ey))
+    s = p * p + q * q; s = -mu / (s * sqrt(s)); gx = s * p; gy = s * q
     k = h / 120
     p = h * (u + k * (11 * ax + 27 * cx + 54 * dx - 16 * (ex + fx))) - lost_x
     q = h * (v + k * (11 * ay + 27 * cy + 54 * dy - 16 * (ey + fy))) - lost_y
-    s = h * (w + k * (11 * az + 27 * cz + 54 * dz - 16 * (ez + fz))) - lost_z
-    f = x; x += p; lost_x = (x - f) - p
-    f = y; y += q; lost_y = (y - f) - q
-    f = z; z += s; lost_z = (z - f) - s
+    s = x; x += p; lost_x = (x - s) - p
+    s = y; y += q; lost_y = (y - s) - q
     p = k * (11 * (ax + gx) + 81 * (cx + dx) - 32 * (ex + fx)) - lost_u
     q = k * (11 * (ay + gy) + 81 * (cy + dy) - 32 * (ey + fy)) - lost_v
-    s = k * (11 * (az + gz) + 81 * (cz + dz) - 32 * (ez + fz)) - lost_w
-    f = u; u += p; lost_u = (u - f) - p
-    f = v; v += q; lost_v = (v - f) - q
-    f = w; w += s; lost_w = (w - f) - s
+    s = u; u += p; lost_u = (u - s) - p
+    s = v; v += q; lost_v = (v - s) - q
 }
 
-# Checks what follows from r1 and v1 without a flight: the eccentricity and the inclination.
-function check_shape(    a, b, c, d, e, f, r, k, l, expected) {
-    a = number("r1_x_km"); b = number("r1_y_km"); c = number("r1_z_km")
-    d = number("v1_x_km_s"); e = number("v1_y_km_s"); f = number("v1_z_km_s")
-    r = distance(a, b, c)
-    k = (d * d + e * e + f * f) / mu - 1 / r
-    l = (a * d + b * e + c * f) / mu
-    expected = distance(k * a - l * d, k * b - l * e, k * c - l * f)
+# Checks what follows from r1 and v1 without a flight: the inclination and the eccentricity.
+function check_shape(    expected) {
+    expect("inclination_deg", number("inclination_deg"), inclination, 1e-6)
+    expected = distance(r1 * v1_y * v1_y / mu - 1, r1 * v1_x * v1_y / mu, 0)
     expect("eccentricity", number("eccentricity"), expected, ROUNDING * (1 + expected))
-    expected = atan2(distance(b * f - c * e, c * d - a * f, 0), a * e - b * d) * 180 / PI
-    expect("inclination_deg", number("inclination_deg"), expected, 1e-6)
 }
 
 # Checks the arrival and the distances that the flight met. The lowest point may be r2, which the flight misses.
 function check_flight(    missed) {
-    missed = distance(x - number("r2_x_km"), y - number("r2_y_km"), z - number("r2_z_km"))
+    missed = distance(x - r2_x, y - r2_y, r2_z)
     expect("miss_r2_m", number("miss_r2_m"), 1000 * missed, 1000 * (change + ROUNDING * r2))
     expect("lowest_km", number("lowest_km"), lowest, change_of(lowest, low) + missed)
     if (perigee) expect("perigee_km", number("perigee_km"), perigee, change_of(perigee, inner))
     if (apogee) expect("apogee_km", number("apogee_km"), apogee, change_of(apogee, outer))
+    if (perigee && apogee) expect("eccentricity", number("eccentricity"), (apogee - perigee) / (apogee + perigee), 1e-6)
 }
 
 function change_of(now, before) { return distance(now - before, 0, 0) + ROUNDING * now }
