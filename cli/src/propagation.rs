@@ -22,8 +22,8 @@ pub fn miss(question: &Question, entry: &Entry) -> Option<f64> {
 /// Returns the position a time after the position `r` and the velocity `v`, in km, or `None` if a number is not finite or the search
 /// does not converge.
 pub fn position_after(mu: f64, r: [f64; 3], v: [f64; 3], time: f64) -> Option<[f64; 3]> {
-    // Lengths are divided by |r|, and speeds by the speed of the circular orbit there. Then mu is 1 and the first radius is 1.
     let alpha = inverse_axis(mu, r, v);
+    // Lengths are divided by |r|, and speeds by the speed of the circular orbit there. Then mu is 1 and the first radius is 1.
     let radius = size(r);
     let circular = (mu / radius).sqrt();
     let [r, v] = [(r, radius), (v, circular)].map(|(a, unit)| a.map(|component| component / unit));
@@ -108,7 +108,7 @@ fn square([x, y, z]: [f64; 3]) -> (f64, f64) {
     })
 }
 
-fn dot(a: [f64; 3], b: [f64; 3]) -> f64 {
+pub fn dot(a: [f64; 3], b: [f64; 3]) -> f64 {
     a[0] * b[0] + a[1] * b[1] + a[2] * b[2]
 }
 
