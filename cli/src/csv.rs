@@ -107,9 +107,10 @@ impl<R: BufRead> Rows<R> {
 /// Returns the first field of a text and the rest of the text, which begins with a comma or a line end or is empty.
 fn next_field(text: &str) -> Result<(String, &str), &'static str> {
     let Some(quoted) = text.strip_prefix('"') else {
-        let line = &text[..text.find('\n').unwrap_or(text.len())];
-        let line = if line.len() < text.len() { line.strip_suffix('\r').unwrap_or(line) } else { line };
-        let field = &line[..line.find(',').unwrap_or(line.len())];
+        let end = text.find([',', '\n']).unwrap_or(text.len());
+        let field = &text[..end];
+        let field =
+            if text[end..].starts_with('\n') { field.strip_suffix('\r').unwrap_or(field) } else { field };
         if field.contains('"') {
             return Err("a quote is inside a field that has no quotes around it");
         }
