@@ -8,6 +8,7 @@ use crate::fields;
 use crate::options::Options;
 use crate::stop::{tell, Stop};
 use crate::streams::{Input, Output};
+use crate::words::shortened;
 use draft::Draft;
 
 const DEFAULT_REVISION: &str = "1";
@@ -18,6 +19,7 @@ pub fn run(words: &[String]) -> Result<u8, Stop> {
     let options =
         Options::read(words, &["--ignore-extra"], &[&single::FIELDS[..], &["--csv", "-o"]].concat())?;
     if let Some(name) = options.files.first() {
+        let name = shortened(name);
         return Stop::said(format!("unexpected argument {name}: a file of questions is given with --csv"));
     }
     options.apart("--csv", &single::FIELDS)?;

@@ -28,7 +28,32 @@ impl Stop {
     }
 }
 
+/// The most bytes of a message's line. Only a text from outside makes a line longer, such as the name of a file.
+const LONGEST: usize = 1500;
+
 /// Prints a message to standard error. If that fails, the command goes on.
 pub fn tell(words: &str) {
-    let _ = writeln!(io::stderr(), "lambert-cli: {words}");
+    let lines: Vec<String> = words.split('\n').map(cut).collect();
+    let _ = writeln!(io::stderr(), "lambert-cli: {}", lines.join("\n"));
+}
+
+/// Returns a line, or its beginning and its length if it is too long.
+fn cut(line: &str) -> String {
+    match line.char_indices().map(|(at, _)| at).take_while(|at| *at <= LONGEST).last() {
+        Some(end) if line.len() > LONGEST => format!("{}... ({} bytes)", &line[..end], line.len()),
+        _ => line.into(),
+    }
+}
+
+#[cfg(test)]
+mod tests {
+    use super::*;
+
+    #[test]
+    fn overlong_lines_are_cut() {
+        let most = "x".repeat(LONGEST);
+        assert_eq!((cut(""), cut("é"), cut(&most)), (String::new(), "é".into(), most.clone()));
+        assert_eq!(cut(&format!("{most}y")), format!("{most}... (1501 bytes)"));
+        assert_eq!(cut(&format!("{}é", &most[1..])), format!("{}... (1501 bytes)", &most[1..]));
+    }
 }
