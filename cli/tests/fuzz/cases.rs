@@ -1,0 +1,259 @@
+//! Damaged inputs for each command but `opm`.
+
+use crate::bytes::{self, board_fields, question_fields, record_fields};
+use crate::chance::Chance;
+use crate::folder::{Folder, Found};
+use crate::rules;
+use crate::samples::Samples;
+use crate::texts;
+use std::ffi::OsString;
+use std::os::unix::ffi::OsStringExt;
+
+/// One run of a command.
+pub struct Case {
+    pub words: Vec<OsString>,
+    /// The files in the working folder. The file `out` is an old output.
+    pub files: Vec<(&'static str, Vec<u8>)>,
+    /// The file that is standard input.
+    pub input: Option<&'static str>,
+    /// The rules of this command beside those for every run.
+    pub also: fn(&Case, &Found, &Folder) -> Result<(), String>,
+}
+
+impl Case {
+    pub fn of(words: &[&str]) -> Case {
+        let words = words.iter().map(OsString::from).collect();
+        Case { words, files: Vec::new(), input: None, also: |_, _, _| Ok(()) }
+    }
+
+    pub fn has(&self, word: &str) -> bool {
+        self.words.iter().any(|given| given == word)
+    }
+
+    pub fn word(&mut self, word: &str) {
+        self.words.push(word.into());
+    }
+
+    pub fn value(&mut self, value: Vec<u8>) {
+        self.words.push(OsString::from_vec(value));
+    }
+
+    /// Adds each of these words or leaves it out.
+    pub fn perhaps(&mut self, chance: &mut Chance, words: &[&str]) {
+        words.iter().filter(|_| chance.one_in(4)).for_each(|word| self.word(word));
+    }
+
+    /// Adds at most one of the words for a form of output.
+    pub fn form(&mut self, chance: &mut Chance, words: &[&str]) {
+        if !chance.one_in(words.len() + 1) {
+            self.word(chance.pick(words));
+        }
+    }
+
+    /// Adds an input: a file with this name, or standard input.
+    pub fn read(&mut self, chance: &mut Chance, name: &'static str, bytes: Vec<u8>) {
+        self.files.push((name, bytes));
+        match chance.below(4) {
+            0 => self.input = Some(name),
+            1 => {
+                self.input = Some(name);
+                self.word("-");
+            }
+            _ => self.word(name),
+        }
+    }
+
+    /// Writes to standard output, to a new file or to a file that is there.
+    pub fn write(&mut self, chance: &mut Chance) {
+        if chance.one_in(2) {
+            self.words.extend(["-o".into(), "out".into()]);
+            if chance.one_in(2) {
+                self.files.push(("out", rules::OLD.to_vec()));
+            }
+        }
+    }
+}
+
+/// Returns one to three of the sample questions, so that solving them takes little time.
+fn few(chance: &mut Chance, samples: &Samples) -> Vec<u8> {
+    let slots: Vec<&[u8]> = samples.questions.chunks(82).collect();
+    (0..1 + chance.below(3)).flat_map(|_| chance.pick(&slots).to_vec()).collect()
+}
+
+pub fn questions(chance: &mut Chance, samples: &Samples) -> Vec<u8> {
+    let good = few(chance, samples);
+    let others =
+        [&samples.records[..], &samples.questions_list, &samples.board[..600], &samples.message, &good];
+    bytes::damaged(chance, &good, &question_fields(&good), &others)
+}
+
+pub fn records(chance: &mut Chance, samples: &Samples) -> Vec<u8> {
+    let good = &samples.records;
+    let others = [&samples.questions[..], &samples.questions_list, &samples.board, &samples.message, good];
+    bytes::damaged(chance, good, &record_fields(good), &others)
+}
+
+pub fn ask_list(chance: &mut Chance, samples: &Samples) -> Case {
+    let mut case = Case::of(&["ask", "--csv", "in"]);
+    let others = [&samples.questions[..], &samples.records, &samples.messages_list, &samples.message];
+    case.files.push(("in", texts::damaged(chance, &samples.questions_list, &others)));
+    if chance.one_in(3) {
+        (case.words[2], case.input) = ("-".into(), Some("in"));
+    }
+    case.perhaps(chance, &["--ignore-extra"]);
+    case.write(chance);
+    case.also = rules::asked;
+    case
+}
+
+const ASKED: [(&str, &str); 8] = [
+    ("--job", "101"),
+    ("--r1", "7000,0,0"),
+    ("--r2", "0,42164,0"),
+    ("--mu", "earth"),
+    ("--time", "6h"),
+    ("--way", "short"),
+    ("--revolutions", "0"),
+    ("--revision", "1"),
+];
+
+/// Adds options. One or two of them have a damaged value, are left out or are given twice.
+pub fn options(chance: &mut Chance, case: &mut Case, given: &[(&str, &str)]) {
+    let damaged: Vec<usize> = (0..chance.pick(&[1, 1, 2])).map(|_| chance.below(given.len())).collect();
+    for (i, (option, value)) in given.iter().enumerate() {
+        match (damaged.contains(&i), chance.below(12)) {
+            (true, 0) => {}
+            (true, 1) => [option, value, option, value].iter().for_each(|word| case.word(word)),
+            (true, 2) => case.value([option.as_bytes(), b"=", &texts::value(chance)].concat()),
+            (true, _) => {
+                case.word(option);
+                case.value(texts::value(chance));
+            }
+            (false, _) => [option, value].iter().for_each(|word| case.word(word)),
+        }
+    }
+}
+
+pub fn ask_options(chance: &mut Chance, _: &Samples) -> Case {
+    let mut case = Case::of(&["ask"]);
+    options(chance, &mut case, &ASKED);
+    case.write(chance);
+    case.also = rules::asked;
+    case
+}
+
+pub fn answer(chance: &mut Chance, _: &Samples) -> Case {
+    let mut case = Case::of(&["answer"]);
+    let last = chance.pick(&[4, 5, 6]);
+    options(chance, &mut case, &ASKED[1..=last]);
+    case.form(chance, &["--json", "--csv"]);
+    case.perhaps(chance, &["--detail", "--explain"]);
+    case
+}
+
+pub fn solve(chance: &mut Chance, samples: &Samples) -> Case {
+    let jobs = chance.pick(&["--jobs=1", "--jobs=3"]);
+    let mut case = Case::of(&["solve", jobs]);
+    let questions = questions(chance, samples);
+    case.read(chance, "in", questions);
+    case.perhaps(chance, &["--strict"]);
+    case.write(chance);
+    case.also = rules::solved;
+    case
+}
+
+pub fn show(chance: &mut Chance, samples: &Samples) -> Case {
+    let mut case = Case::of(&["show"]);
+    let with_questions = chance.one_in(2);
+    if with_questions {
+        let good = &samples.questions;
+        let others = [&samples.records[..], &samples.questions_list];
+        let asked = bytes::damaged(chance, good, &question_fields(good), &others);
+        case.files.push(("questions", if chance.one_in(2) { good.clone() } else { asked }));
+        case.words.extend(["--questions".into(), "questions".into()]);
+    }
+    let records =
+        if with_questions && chance.one_in(3) { samples.records.clone() } else { records(chance, samples) };
+    case.read(chance, "in", records);
+    case.form(chance, &["--json", "--csv"]);
+    case.perhaps(chance, &["--detail", "--explain"]);
+    case
+}
+
+pub fn plot(chance: &mut Chance, samples: &Samples) -> Case {
+    let mut case = Case::of(&["plot"]);
+    let questions = questions(chance, samples);
+    case.read(chance, "in", questions);
+    match chance.below(6) {
+        0 => {}
+        1..=3 => case.words.extend(["--slot".into(), chance.pick(&["1", "2", "3", "9"]).into()]),
+        4 => case.words.extend(["--job".into(), chance.pick(&["7", "101", "103", "105"]).into()]),
+        _ => {
+            case.word(chance.pick(&["--slot", "--job"]));
+            case.value(texts::value(chance));
+        }
+    }
+    case.write(chance);
+    case.also = rules::drawn;
+    case
+}
+
+pub fn board(chance: &mut Chance, samples: &Samples) -> Case {
+    let mut case = Case::of(&["board"]);
+    for name in ["first", "second", "third"].iter().take(chance.below(3)) {
+        case.files
+            .push((name, if chance.one_in(2) { samples.records.clone() } else { records(chance, samples) }));
+        case.word(name);
+    }
+    let last = records(chance, samples);
+    case.read(chance, "in", last);
+    case.form(chance, &["--bytes", "--json", "--csv"]);
+    case.perhaps(chance, &["--strict"]);
+    case.write(chance);
+    case.also = rules::posted;
+    case
+}
+
+pub fn stored_board(chance: &mut Chance, samples: &Samples) -> Case {
+    let mut case = board(chance, samples);
+    let good = &samples.board;
+    let others = [&samples.records[..], &samples.questions, &samples.questions_list];
+    let stored = bytes::damaged(chance, good, &board_fields(good), &others);
+    case.files.push(("board", if chance.one_in(4) { good.clone() } else { stored }));
+    case.words.extend(["--board".into(), "board".into()]);
+    case
+}
+
+pub fn check_records(chance: &mut Chance, samples: &Samples) -> Case {
+    let mut case = Case::of(&["check"]);
+    let records = records(chance, samples);
+    case.read(chance, "in", records);
+    case.also = rules::shown;
+    case
+}
+
+pub fn check_questions(chance: &mut Chance, samples: &Samples) -> Case {
+    let mut case = Case::of(&["check", "--questions"]);
+    let questions = questions(chance, samples);
+    case.read(chance, "in", questions);
+    case.also = rules::checked;
+    case
+}
+
+/// A command line that nobody wrote: names, options and values in any order. It names no output.
+pub fn wrong_words(chance: &mut Chance, samples: &Samples) -> Case {
+    let names =
+        ["ask", "solve", "show", "plot", "board", "check", "opm", "answer", "sovle", "--help", "-h", "in"];
+    let options =
+        ["--jobs", "--strict", "--json", "--csv", "--questions", "--slot", "--board", "--read", "--", "-"];
+    let mut case = Case::of(&[]);
+    case.files.push(("in", records(chance, samples)));
+    for _ in 0..chance.below(5) {
+        match chance.below(4) {
+            0 => case.value(texts::value(chance)),
+            1 => case.word(chance.pick(&options)),
+            _ => case.word(chance.pick(&names)),
+        }
+    }
+    case
+}
