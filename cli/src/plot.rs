@@ -3,15 +3,22 @@
 mod axes;
 mod choice;
 mod curve;
+mod flight;
 mod graph;
+mod measure;
 mod page;
+mod room;
+mod sheet;
 mod svg;
 mod ticks;
+mod told;
 mod trace;
+mod transfer;
 
 use crate::expected;
 use crate::options::Options;
 use crate::proved::record_of;
+use crate::show::view::radius;
 use crate::stop::Stop;
 use crate::streams::write_text;
 use crate::wire::{Record, Records};
@@ -20,14 +27,15 @@ use curve::Curve;
 
 /// Runs the command. It opens the output only when the picture is ready, so that a failure leaves no empty file.
 pub fn run(words: &[String]) -> Result<u8, Stop> {
-    let options = Options::read(words, &[], &["--job", "--slot", "-o"])?;
+    let options = Options::read(words, &[], &["--job", "--slot", "--radius", "-o"])?;
     let choice = Choice::read(&options)?;
+    let radius = options.value("--radius").map(radius).transpose()?;
     let mut input = expected::questions(options.file()?)?;
     let question = choice.question(&mut input)?;
     let slot = question.bytes();
     let record = record(&slot)?;
     let curve = Curve::of(&slot, &record.outcome);
-    let picture = page::page(&question, &record.outcome, curve.as_ref());
+    let picture = page::page(&question, &record.outcome, curve.as_ref(), radius);
     write_text(options.value("-o"), &[input.id()], &picture)?;
     Ok(0)
 }

@@ -3,9 +3,9 @@
 
 use super::curve::Curve;
 
-/// The left and right edge of the graph's frame and its height, in units of the picture.
-pub const LEFT: f64 = 50.0;
-pub const RIGHT: f64 = 374.0;
+/// The left and right edge of the graph's frame and its height, in units of the picture. Both sides have space for a label.
+pub const LEFT: f64 = 56.0;
+pub const RIGHT: f64 = 344.0;
 pub const HEIGHT: f64 = 270.0;
 
 pub struct Axes {

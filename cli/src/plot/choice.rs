@@ -79,6 +79,7 @@ impl Choice {
     fn missing(&self, slots: u64) -> String {
         match self {
             Choice::Only => "has no question".into(),
+            Choice::Job(job) if slots == 1 => format!("the only slot has no question of job {job}"),
             Choice::Job(job) => format!("none of the {slots} slots has a question of job {job}"),
             Choice::Slot(number) => format!("there is no slot {number}, the file has {slots}"),
         }

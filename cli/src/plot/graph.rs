@@ -2,9 +2,14 @@
 
 use super::axes::{Axes, HEIGHT, LEFT, RIGHT};
 use super::curve::{Curve, Place};
-use super::svg::{circle, escaped, line, rect, text, within, DARK, GREY};
+use super::flight::Flight;
+use super::measure::BOLD;
+use super::room::{Point, Room};
+use super::sheet::{MARGIN, WIDTH};
+use super::svg::{circle, escaped, label, line, rect, text, within, DARK, GREY, RED};
 use super::ticks::{linear, logarithmic};
 use super::trace::{trace, Trace};
+use std::f64::consts::{FRAC_PI_4, PI};
 
 /// The styles of the curve, the wanted time and void stations, in the graph and in the legend.
 pub const CURVE: &str =
@@ -14,38 +19,78 @@ pub const VOID: &str = "fill=\"#efb04a\"";
 
 const GRID: &str = "stroke=\"#d5d5d5\"";
 const PARABOLA: &str = "stroke=\"#555555\" stroke-dasharray=\"2 3\"";
-/// A white outline that keeps text legible over lines.
-const HALO: &str = "stroke=\"white\" stroke-width=\"4\" stroke-linejoin=\"round\" paint-order=\"stroke\"";
 
-/// Draws the graph. `brackets` has the words for each entry.
-pub fn graph(curve: &Curve, axes: &Axes, brackets: &[String]) -> String {
+/// Draws the graph of a question with this time in seconds. `brackets` has the words for each entry.
+pub fn graph(curve: &Curve, axes: &Axes, seconds: f64, brackets: &[String]) -> String {
     let frame = [LEFT, axes.top, RIGHT - LEFT, HEIGHT];
     let Trace { path, voids } = trace(&curve.stations, axes);
-    let mut drawn = levels(axes) + &places(axes);
+    let mut drawn = levels(axes) + &times(axes, &Flight::of(seconds, curve.wanted)) + &places(axes);
     for (from, to) in voids {
         // The mark is one unit wider than the stretch, so that a single void station can be seen.
         drawn += &rect([from - 0.5, axes.top, to - from + 1.0, HEIGHT], &format!("class=\"void\" {VOID}"));
     }
     let y = axes.down(curve.wanted);
     drawn += &line([LEFT, y, RIGHT, y], &format!("class=\"wanted\" {WANTED}"));
-    drawn += &text(RIGHT + 5.0, y + 4.5, "fill=\"#b00020\" font-weight=\"bold\"", "T*");
     drawn += &within(frame, &format!("<path class=\"curve\" fill=\"none\" {CURVE} d=\"{path}\"/>\n"));
     drawn += &rect(frame, &format!("fill=\"none\" stroke=\"{GREY}\""));
+    let mut room = room(curve, axes);
     for (i, (place, words)) in curve.chosen.iter().zip(brackets).enumerate() {
-        drawn += &bracket(i, *place, curve.wanted, axes, words);
+        drawn += &bracket(i, spot(*place, curve.wanted, axes), axes, &mut room, words);
     }
-    drawn
+    // The label of the wanted time is above its line, at the right end or, if other things are there, elsewhere.
+    let points = [RIGHT - 16.0, LEFT + 16.0, RIGHT - 60.0].map(|x| (x, y - 3.0));
+    let at = room.label("T*", BOLD, &points, -2.0 * FRAC_PI_4, 3.0);
+    drawn + &label(at, RED, "T*")
+}
+
+/// Returns the position of the chosen end of a bracket.
+fn spot((x, time): Place, wanted: f64, axes: &Axes) -> Point {
+    (axes.across(x), axes.down(time.unwrap_or(wanted)))
+}
+
+/// Returns the frame with what labels must not cover: the curve, the line of the wanted time, the circles on it and the lines below them.
+fn room(curve: &Curve, axes: &Axes) -> Room {
+    let mut room = Room::new([LEFT + 2.0, axes.top + 2.0, RIGHT - 2.0, axes.bottom() - 2.0]);
+    let y = axes.down(curve.wanted);
+    room.take_line((LEFT, y), (RIGHT, y));
+    for pair in curve.stations.windows(2) {
+        if let [(x, Some(time)), (next, Some(then))] = pair {
+            room.take_line((axes.across(*x), axes.down(*time)), (axes.across(*next), axes.down(*then)));
+        }
+    }
+    for place in &curve.chosen {
+        let (across, down) = spot(*place, curve.wanted, axes);
+        room.take([across - 6.0, down - 6.0, across + 6.0, down + 6.0]);
+        room.take_line((across, down), (across, axes.bottom()));
+    }
+    room
 }
 
 /// Draws the time axis with its grid lines.
 fn levels(axes: &Axes) -> String {
-    let mut drawn = text(12.0, axes.top - 9.0, "", "T, the normalised time (logarithmic)");
+    let mut drawn = text(MARGIN, axes.top - 9.0, "", "T, the normalised time (logarithmic)");
     for (level, label) in logarithmic(axes.levels) {
         let y = axes.down_at(level);
         let width = if label.is_some() { "1" } else { "0.4" };
         drawn += &line([LEFT, y, RIGHT, y], &format!("{GRID} stroke-width=\"{width}\""));
         if let Some(label) = label {
             drawn += &text(LEFT - 5.0, y + 4.5, "text-anchor=\"end\"", &label);
+        }
+    }
+    drawn
+}
+
+/// Draws the axis at the right: the same times in a unit of time.
+fn times(axes: &Axes, flight: &Flight) -> String {
+    let (low, high) = axes.levels;
+    let name = format!("time in {}", flight.unit);
+    let mut drawn = text(WIDTH - MARGIN, axes.top - 9.0, "text-anchor=\"end\"", &name);
+    for (level, label) in logarithmic((low + flight.shift, high + flight.shift)) {
+        let y = axes.down_at(level - flight.shift);
+        let length = if label.is_some() { 5.0 } else { 3.0 };
+        drawn += &line([RIGHT, y, RIGHT + length, y], &format!("stroke=\"{GREY}\""));
+        if let Some(label) = label {
+            drawn += &text(RIGHT + 8.0, y + 4.5, "class=\"time\"", &label);
         }
     }
     drawn
@@ -67,16 +112,13 @@ fn places(axes: &Axes) -> String {
 }
 
 /// Draws a bracket: a circle at its chosen end on the curve, a line down to its x, and its number beside the circle, below the wanted
-/// time and away from the curve. A bracket is too narrow to be seen; its words give its ends.
-fn bracket(i: usize, (x, time): Place, wanted: f64, axes: &Axes, words: &str) -> String {
-    let (across, down) = (axes.across(x), axes.down(time.unwrap_or(wanted)));
-    let left = i.is_multiple_of(2) && across > LEFT + 20.0;
-    let (aside, anchor) = if left { (-9.0, "end") } else { (9.0, "start") };
-    let style = format!("text-anchor=\"{anchor}\" font-weight=\"bold\" fill=\"{DARK}\" {HALO}");
+/// time if there is space. A bracket is too narrow to be seen; its words give its ends.
+fn bracket(i: usize, at: Point, axes: &Axes, room: &mut Room, words: &str) -> String {
     let mut drawn = format!("<g class=\"bracket\"><title>{}</title>\n", escaped(words));
-    drawn +=
-        &line([across, down, across, axes.bottom()], &format!("stroke=\"{DARK}\" stroke-dasharray=\"1 3\""));
-    drawn += &circle(across, down);
-    drawn += &text(across + aside, down + 17.0, &style, &(i + 1).to_string());
+    drawn += &line([at.0, at.1, at.0, axes.bottom()], &format!("stroke=\"{DARK}\" stroke-dasharray=\"1 3\""));
+    drawn += &circle(at.0, at.1);
+    let toward = if i.is_multiple_of(2) { PI - FRAC_PI_4 } else { FRAC_PI_4 };
+    let number = (i + 1).to_string();
+    drawn += &label(room.label(&number, BOLD, &[at], toward, 8.0), DARK, &number);
     drawn + "</g>\n"
 }

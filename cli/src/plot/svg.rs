@@ -2,6 +2,11 @@
 
 pub const DARK: &str = "#1a1a1a";
 pub const GREY: &str = "#555555";
+/// The colour of the wanted time and of warnings.
+pub const RED: &str = "#b00020";
+
+/// A white outline that keeps text legible over lines.
+const HALO: &str = "stroke=\"white\" stroke-width=\"4\" stroke-linejoin=\"round\" paint-order=\"stroke\"";
 
 /// Escapes the characters that have a meaning in SVG.
 pub fn escaped(words: &str) -> String {
@@ -11,6 +16,12 @@ pub fn escaped(words: &str) -> String {
 /// Returns words at a point. `more` has further attributes.
 pub fn text(x: f64, y: f64, more: &str, words: &str) -> String {
     format!("<text x=\"{x:.1}\" y=\"{y:.1}\"{}>{}</text>\n", spaced(more), escaped(words))
+}
+
+/// Returns a bold label with an outline. The middle of its baseline is at the point.
+pub fn label((x, y): (f64, f64), colour: &str, words: &str) -> String {
+    let style = format!("text-anchor=\"middle\" font-weight=\"bold\" fill=\"{colour}\" {HALO}");
+    text(x, y, &style, words)
 }
 
 pub fn line([x1, y1, x2, y2]: [f64; 4], more: &str) -> String {

@@ -35,7 +35,7 @@ pub fn linear(right: f64) -> Vec<(f64, &'static str)> {
 }
 
 /// Returns the label of a digit times a power of ten, written out if that is short.
-fn label(digit: i32, exponent: i32) -> String {
+pub fn label(digit: i32, exponent: i32) -> String {
     if (0..=3).contains(&exponent) {
         return format!("{}", i64::from(digit) * 10i64.pow(exponent as u32));
     }

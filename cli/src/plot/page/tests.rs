@@ -1,5 +1,9 @@
 use super::*;
+use crate::orbit::x_of;
 use crate::plot::curve::Place;
+use crate::plot::svg::escaped;
+use crate::refusal;
+use crate::wire::Entry;
 
 fn question() -> Question {
     Question::read(&include_bytes!("../../../../samples/questions")[..82]).expect("a question")
@@ -41,7 +45,7 @@ fn is_well_formed(text: &str) -> bool {
 fn every_refusal_is_told() {
     for number in 2..=14 {
         let curve = curve(Vec::new());
-        let page = page(&question(), &Outcome::Refused(number), Some(&curve).filter(|_| number > 10));
+        let page = page(&question(), &Outcome::Refused(number), Some(&curve).filter(|_| number > 10), None);
         assert!(is_well_formed(&page));
         let words = format!("refused {number}: {}", refusal::words(number));
         assert!(page.contains(&escaped(&words)), "in the description");
@@ -59,8 +63,8 @@ fn every_bracket_is_there() {
     for count in 1..=8 {
         let entries: Vec<Entry> = (0..count).map(|i| entry(i << 28)).collect();
         let chosen = entries.iter().map(|entry| (x_of(entry.chosen()), Some(300.0))).collect();
-        let page = page(&question(), &Outcome::Answered(entries), Some(&curve(chosen)));
-        assert!(is_well_formed(&page) && page.len() < 100_000);
+        let page = page(&question(), &Outcome::Answered(entries), Some(&curve(chosen)), None);
+        assert!(is_well_formed(&page) && page.len() < 100_000, "{} {}", page.len(), is_well_formed(&page));
         assert_eq!(page.matches("class=\"bracket\"").count(), count as usize);
         assert_eq!(page.matches("upper end, h = 18").count(), 3 * count as usize);
         assert!(page.contains("1: ellipse, x = 0.000000000931, upper end, h = 18"));
@@ -69,7 +73,7 @@ fn every_bracket_is_there() {
 
 #[test]
 fn void_stations_are_marked_and_counted() {
-    let page = page(&question(), &Outcome::Refused(12), Some(&curve(Vec::new())));
+    let page = page(&question(), &Outcome::Refused(12), Some(&curve(Vec::new())), None);
     assert_eq!(page.matches("class=\"void\"").count(), 1);
     assert!(page.contains("void stations: 10") && page.contains("8191 stations, 10 of them void"));
 }
@@ -80,4 +84,76 @@ fn the_check_sees_faults() {
         assert!(!is_well_formed(text), "{text}");
     }
     assert!(is_well_formed("<a b=\"1\"><c/>x &lt; y</a>\n"));
+}
+
+/// Questions with numbers of many digits, for which every kind of outcome is found.
+fn extreme() -> Vec<Question> {
+    let (small, large) = (1.234_567_890_123_456_7e-300, 1.234_567_890_123_456_7e300);
+    let mut questions = Vec::new();
+    let kinds =
+        [(1, 0, 0, false), (u32::MAX, u32::MAX, 0, true), (7, 1, 1, true), (u32::MAX, u32::MAX, 16, false)];
+    let mut ask = |r1: [f64; 3], r2: [f64; 3], mu: f64, time: f64| {
+        let (job, revision, revolutions, long_way) = kinds[questions.len() % 7 % 4];
+        questions.push(Question { job, revision, revolutions, long_way, r1, r2, mu, time });
+    };
+    for time in [
+        large,
+        20.000_000_000_000_004,
+        5_432.123_456_789_012,
+        98_765.432_109_876_54,
+        1.234_567_890_123_456_7e7,
+        1e12,
+    ] {
+        ask([-large; 3], [-small; 3], large, time);
+        ask(
+            [-7_000.123_456_789_012, 12.345_678_901_234_567, 0.1],
+            [-695_742_345.123_456_7; 3],
+            398_600.441_8,
+            time,
+        );
+        ask(
+            [7_000.123_456_789_012, small, -small],
+            [100.123_456_789_012_34, -7_000.5, 0.1],
+            398_600.441_8,
+            time,
+        );
+        ask(
+            [-0.000_012_345_678_901_234_567, 1.0, 1.1],
+            [-123_456_789_012.345_6, 1.0, -123_456_789_012.345_6],
+            1.0,
+            time,
+        );
+        ask([7_000.0, 0.0, 0.0], [7_000.0, 30.0, 0.0], 398_600.441_8, time);
+        ask([7_000.0, 0.0, 0.0], [14_000.0, 0.1, 0.0], 398_600.441_8, time);
+        ask([1.0, 0.0, 0.0], [-1.0, 0.001, 0.0], 1.152_921_504_606_846_9e18, time);
+        ask([1.5e8, 0.0, 0.0], [0.1, 2.3e8, 1e6], 132_712_440_041.939_38, time);
+    }
+    questions
+}
+
+fn drawn(question: &Question, radius: Option<f64>) -> (Outcome, String) {
+    let slot = question.bytes();
+    let outcome = crate::plot::record(&slot).ok().expect("a record").outcome;
+    let curve = Curve::of(&slot, &outcome);
+    let page = page(question, &outcome, curve.as_ref(), radius);
+    (outcome, page)
+}
+
+#[test]
+fn every_text_is_whole_and_fits_its_space() {
+    let (mut answers, mut faults) = (0, Vec::new());
+    for (i, question) in extreme().iter().enumerate() {
+        let radius = [None, Some(6_378.137), Some(1.234_567_890_123_456_7e-300), Some(f64::MAX)][i % 4];
+        let (outcome, page) = drawn(question, radius);
+        assert!(is_well_formed(&page) && page.len() < 100_000 && !page.contains("NaN\""), "{question:?}");
+        answers += usize::from(matches!(outcome, Outcome::Answered(_)));
+        faults.extend(layout::faults(&page).into_iter().map(|fault| format!("{fault} in {question:?}")));
+        // The lines of the question, joined, are its phrases: nothing is cut off.
+        let texts = layout::texts(&page).into_iter().map(|(words, _)| words).collect::<Vec<_>>().join(" ");
+        for phrase in crate::words::asked(question) {
+            assert!(texts.contains(&phrase), "{phrase} is not in {texts}");
+        }
+    }
+    assert!(answers > 10, "{answers}");
+    assert!(faults.is_empty(), "{} faults: {:#?}", faults.len(), &faults[..faults.len().min(5)]);
 }
