@@ -6,8 +6,7 @@ use super::svg::{escaped, text, DARK, RED};
 /// The width of the picture in its own units. A phone is about as many pixels wide, so the text appears there at its nominal size.
 pub const WIDTH: f64 = 400.0;
 pub const MARGIN: f64 = 12.0;
-/// The height of a line of text, and the space that a sign in a legend takes from it.
-const LINE: f64 = 18.0;
+/// The space that a sign in a legend takes from its line.
 const SIGN: f64 = 34.0;
 
 pub struct Sheet {
@@ -36,13 +35,13 @@ impl Sheet {
 
     /// Writes a row of a legend. `sign` draws the sign at a height, between the margin and the margin plus 26.
     pub fn item(&mut self, sign: impl Fn(f64) -> String, words: &str) {
-        self.drawn += &sign(self.y + LINE - 4.5);
+        self.drawn += &sign(self.y + PLAIN.size + 0.5);
         self.lines(words, PLAIN, "", SIGN);
     }
 
     fn lines(&mut self, words: &str, font: Font, style: &str, indent: f64) {
         for line in font.lines(words, WIDTH - 2.0 * MARGIN - indent) {
-            self.y += LINE;
+            self.y += font.size + 5.0;
             self.drawn += &text(MARGIN + indent, self.y, style, &line);
         }
     }
