@@ -86,6 +86,24 @@ fn the_check_sees_faults() {
     assert!(is_well_formed("<a b=\"1\"><c/>x &lt; y</a>\n"));
 }
 
+/// The time asked for is 10 hours, so the label 10 of the axis at the right is at the height of the wanted time.
+#[test]
+fn the_axis_at_the_right_tells_the_time_of_flight() {
+    let (r1, r2, mu) = ([7_000.0, 0.0, 0.0], [0.0, 42_164.0, 0.0], 398_600.441_8);
+    for revolutions in [0, 1] {
+        let asked = Question { r1, r2, mu, time: 36_000.0, revolutions, ..question() };
+        let (_, page) = drawn(&asked, None);
+        assert!(page.contains(">time in hours<"));
+        let height = |element: &str, sign: &str, name: &str| -> f64 {
+            let tag = page.split(element).find(|tag| tag.contains(sign)).expect(sign);
+            tag.split(name).nth(1).and_then(|y| y.split('"').next()?.parse().ok()).expect("a height")
+        };
+        let wanted = height("<line", "class=\"wanted\"", " y1=\"");
+        let label = height("<text", "class=\"time\">10<", " y=\"");
+        assert!((label - 4.5 - wanted).abs() < 0.11, "{label}, {wanted}");
+    }
+}
+
 /// Questions with numbers of many digits, for which every kind of outcome is found.
 fn extreme() -> Vec<Question> {
     let (small, large) = (1.234_567_890_123_456_7e-300, 1.234_567_890_123_456_7e300);
