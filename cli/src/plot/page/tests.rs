@@ -104,14 +104,16 @@ fn the_axis_at_the_right_tells_the_time_of_flight() {
     }
 }
 
+/// The jobs, revisions, revolutions and ways of the extreme questions.
+const KINDS: [(u32, u32, u16, bool); 4] =
+    [(1, 0, 0, false), (u32::MAX, u32::MAX, 0, true), (7, 1, 1, true), (u32::MAX, u32::MAX, 16, false)];
+
 /// Questions with numbers of many digits, for which every kind of outcome is found.
 fn extreme() -> Vec<Question> {
     let (small, large) = (1.234_567_890_123_456_7e-300, 1.234_567_890_123_456_7e300);
     let mut questions = Vec::new();
-    let kinds =
-        [(1, 0, 0, false), (u32::MAX, u32::MAX, 0, true), (7, 1, 1, true), (u32::MAX, u32::MAX, 16, false)];
     let mut ask = |r1: [f64; 3], r2: [f64; 3], mu: f64, time: f64| {
-        let (job, revision, revolutions, long_way) = kinds[questions.len() % 7 % 4];
+        let (job, revision, revolutions, long_way) = KINDS[questions.len() % 7 % 4];
         questions.push(Question { job, revision, revolutions, long_way, r1, r2, mu, time });
     };
     for time in [

@@ -29,6 +29,7 @@ impl Transfers {
         words[1..].iter().for_each(|words| if warn { sheet.warn(words) } else { sheet.say(words) });
     }
 
+    /// Draws the body, the ways and their marks. Labels come last, so that they find places where nothing else is.
     pub fn drawing(&self, view: &View) -> String {
         let mut room = Room::new(view.frame);
         let mut drawn = self.centre(view);
@@ -38,9 +39,9 @@ impl Transfers {
         }
         let positions: Vec<(&str, Point)> =
             self.positions().map(|(name, place)| (name, view.at(place))).collect();
-        positions
-            .iter()
-            .for_each(|(_, place)| room.take([place.0 - 4.0, place.1 - 4.0, place.0 + 4.0, place.1 + 4.0]));
+        for (_, (x, y)) in &positions {
+            room.take([x - 4.0, y - 4.0, x + 4.0, y + 4.0]);
+        }
         let seen = |flown: &Flown| flown.way.iter().map(|step| view.at(step.place)).collect();
         let ways: Vec<Vec<Point>> = self.flights.iter().map(seen).collect();
         for (i, way) in ways.iter().enumerate() {
