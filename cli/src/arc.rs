@@ -6,8 +6,6 @@ use crate::wire::{Entry, Question};
 use std::f64::consts::TAU;
 
 pub struct Arc {
-    /// In km.
-    pub semilatus_rectum: f64,
     pub eccentricity: f64,
     /// The least distance of the whole orbit from the centre, in km.
     pub perigee: f64,
@@ -38,7 +36,6 @@ impl Arc {
         let semilatus_rectum = (transverse * radii[0]).powi(2) / mu;
         let ahead = if transverse > 0.0 { dot(cross(up, end), normal) / transverse } else { 0.0 };
         Arc {
-            semilatus_rectum,
             eccentricity,
             perigee: semilatus_rectum / (1.0 + eccentricity),
             apogee: semimajor_axis(question, entry).map(|a| a * (1.0 + eccentricity)),

@@ -62,7 +62,7 @@ fn every_answer_has_an_arc_and_a_miss() {
     assert!(flights.len() > 500, "{}", flights.len());
     for flight in &flights {
         let arc = Arc::of(&flight.question, &flight.entry);
-        let numbers = [arc.semilatus_rectum, arc.eccentricity, arc.perigee, arc.lowest(), arc.inclination];
+        let numbers = [arc.eccentricity, arc.perigee, arc.lowest(), arc.inclination];
         let positive = |number: &f64| number.is_finite() && *number >= 0.0;
         assert!(numbers.iter().all(positive) && arc.apogee.iter().all(positive), "{numbers:?}: {flight:?}");
         assert!((0.0..TAU).contains(&arc.departure) && (0.0..TAU).contains(&arc.angle), "{flight:?}");
