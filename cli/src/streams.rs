@@ -48,13 +48,15 @@ impl Input {
         self.file.as_ref().map(FileId::of)
     }
 
-    /// Returns the first bytes of the input, at most `most`. They stay part of the input.
+    /// Returns the first bytes of the input, at most `most`. They stay part of the input. If the input has fewer, its end was read,
+    /// and it is not read again: a terminal would need a second Ctrl-D.
     pub fn first(&mut self, most: usize) -> Result<Vec<u8>, Stop> {
         let mut first = vec![0; most];
         let had = crate::wire::read_full(&mut self.bytes, &mut first);
         first.truncate(had.map_err(|e| Stop::reading(&self.name, &e))?);
         let rest = std::mem::replace(&mut self.bytes, Box::new(io::empty()));
-        self.bytes = Box::new(io::Cursor::new(first.clone()).chain(rest));
+        let begin = io::Cursor::new(first.clone());
+        self.bytes = if first.len() < most { Box::new(begin) } else { Box::new(begin.chain(rest)) };
         Ok(first)
     }
 }
