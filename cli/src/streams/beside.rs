@@ -3,7 +3,7 @@
 
 use std::fs::{self, File, OpenOptions};
 use std::io;
-use std::path::PathBuf;
+use std::path::{Path, PathBuf};
 
 pub struct Beside {
     made: PathBuf,
@@ -11,13 +11,17 @@ pub struct Beside {
 }
 
 impl Beside {
-    /// Creates the file beside `name`. If `name` is a link to a file, that file will be replaced, and a file that is
+    /// Creates the file beside `name`. If `name` is a link, the file that it means will be replaced or made, and a file that is
     /// replaced passes on its permissions.
     pub fn create(name: &str) -> io::Result<(File, Beside)> {
-        let name = target(PathBuf::from(name))?;
+        let name = followed(name)?;
         let Some(last) = name.file_name() else { return Err(io::ErrorKind::IsADirectory.into()) };
-        let made = name.with_file_name(format!(".{}.{}.part", last.to_string_lossy(), std::process::id()));
-        let file = OpenOptions::new().write(true).create_new(true).open(&made)?;
+        // A name may be as long as the system allows, so only its beginning is used.
+        let start: String = last.to_string_lossy().chars().take(50).collect();
+        let (file, made) = (0..100)
+            .map(|other| create_new(name.with_file_name(part(&start, other))))
+            .find(|made| !matches!(made, Err(e) if e.kind() == io::ErrorKind::AlreadyExists))
+            .unwrap_or_else(|| Err(io::ErrorKind::AlreadyExists.into()))?;
         let beside = Beside { made, name };
         if let Ok(present) = fs::metadata(&beside.name) {
             fs::set_permissions(&beside.made, present.permissions())?;
@@ -32,12 +36,30 @@ impl Beside {
     }
 }
 
-/// Returns the file that a link leads to, also if it is not there yet.
-fn target(mut name: PathBuf) -> io::Result<PathBuf> {
-    for _ in 0..40 {
-        match fs::read_link(&name) {
-            Err(_) => return Ok(name),
-            Ok(next) => name = name.with_file_name(next),
+/// Returns the name of the file beside. A run that was killed may have left a file with the number of this process; then
+/// another name is tried.
+fn part(start: &str, other: u32) -> String {
+    let process = std::process::id();
+    match other {
+        0 => format!(".{start}.{process}.part"),
+        _ => format!(".{start}.{process}.{other}.part"),
+    }
+}
+
+fn create_new(path: PathBuf) -> io::Result<(File, PathBuf)> {
+    OpenOptions::new().write(true).create_new(true).open(&path).map(|file| (file, path))
+}
+
+/// The most links that are followed one after the other. The system has the same limit.
+const LINKS: u32 = 40;
+
+/// Follows a link to the file that it means, which need not exist.
+fn followed(name: &str) -> io::Result<PathBuf> {
+    let mut path = PathBuf::from(name);
+    for _ in 0..LINKS {
+        match fs::read_link(&path) {
+            Ok(meant) => path = path.parent().unwrap_or(Path::new("")).join(meant),
+            Err(_) => return Ok(path),
         }
     }
     Err(io::Error::other("too many links"))
