@@ -26,7 +26,7 @@ pub fn run(words: &[String]) -> Result<u8, Stop> {
     let options = Options::read(words, &view::FLAGS, &[&FIELDS[..], &view::VALUED].concat())?;
     if let Some(name) = options.files.first() {
         return Stop::said(format!(
-            "unexpected argument {}: the question is given by options",
+            "unexpected argument {}: the question is given by options, and a position has no blanks: 7000,0,0",
             words::shortened(name)
         ));
     }

@@ -20,7 +20,9 @@ pub fn run(words: &[String]) -> Result<u8, Stop> {
         Options::read(words, &["--ignore-extra"], &[&single::FIELDS[..], &["--csv", "-o"]].concat())?;
     if let Some(name) = options.files.first() {
         let name = shortened(name);
-        return Stop::said(format!("unexpected argument {name}: a file of questions is given with --csv"));
+        return Stop::said(format!(
+            "unexpected argument {name}: a file is given with --csv, and a position has no blanks: 7000,0,0"
+        ));
     }
     options.apart("--csv", &single::FIELDS)?;
     match options.value("--csv") {

@@ -5,6 +5,7 @@ use crate::options::Options;
 use crate::stop::Stop;
 use crate::streams::{write_text, Input};
 use crate::wire::{Fault, Outcome, Question, Records, Slots};
+use crate::words::counted;
 use std::collections::BTreeMap;
 use std::io::BufReader;
 
@@ -27,7 +28,7 @@ fn questions(input: Input) -> Result<String, Stop> {
             return Stop::said(Fault { offset, number: slots.number, words }.located(&name, "slot"));
         }
     }
-    Ok(format!("{name}: {} questions, well-formed\n", slots.number))
+    Ok(format!("{name}: {}, well-formed\n", counted(slots.number, "question")))
 }
 
 fn records(input: Input) -> Result<String, Stop> {
@@ -43,7 +44,8 @@ fn records(input: Input) -> Result<String, Stop> {
             Some(Outcome::Refused(number)) => *refusals.entry(number).or_insert(0u64) += 1,
         }
     }
-    let mut told = format!("{name}: {} records, {} bytes, well-formed\n", records.number, records.offset);
+    let all = counted(records.number, "record");
+    let mut told = format!("{name}: {all}, {} bytes, well-formed\n", records.offset);
     for (entries, count) in answers {
         told += &format!("{count} answered with {entries} transfer{}\n", if entries == 1 { "" } else { "s" });
     }

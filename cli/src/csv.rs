@@ -96,7 +96,8 @@ impl<R: BufRead> Rows<R> {
                 break;
             }
         }
-        let text = String::from_utf8(bytes).map_err(|_| Fault::Line(line, "is not UTF-8 text".into()))?;
+        let text = String::from_utf8(bytes)
+            .map_err(|_| Fault::Line(line, "is not UTF-8 text, so this is not a CSV file".into()))?;
         match text.strip_prefix('\u{feff}') {
             Some(rest) if line == 1 => Ok(rest.into()),
             _ => Ok(text),

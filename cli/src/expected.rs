@@ -1,8 +1,10 @@
 //! Opens an input that has to hold questions or records. If it plainly holds something else, the message says what it
 //! holds and what to do with it.
 
+use crate::proved::post;
 use crate::stop::Stop;
 use crate::streams::Input;
+use crate::wire::slots::BOARD;
 use crate::wire::{form, u16_at, u32_at, Question, SLOT};
 
 #[derive(Clone, Copy, PartialEq)]
@@ -21,10 +23,23 @@ pub fn records(name: Option<&str>) -> Result<Input, Stop> {
 
 fn opened(name: Option<&str>, wanted: Content) -> Result<Input, Stop> {
     let mut input = Input::open(name)?;
+    if is_board(&mut input)? {
+        return Stop::said(format!("{}: is a board: 'lambert-cli board --board FILE' prints it", input.name));
+    }
     match other(&mut input, wanted)? {
         Some(words) => Stop::said(format!("{}: {words}", input.name)),
         None => Ok(input),
     }
+}
+
+/// Reports whether an input is a file that holds a board. Only a file of a board's size is looked at.
+fn is_board(input: &mut Input) -> Result<bool, Stop> {
+    if input.file.as_ref().is_none_or(|file| !file.is_file() || file.len() != BOARD as u64) {
+        return Ok(false);
+    }
+    // Posting an empty record changes no board, and its result is the number 0 exactly if the bytes are not a board.
+    let mut bytes = input.first(BOARD)?;
+    Ok(post(&mut bytes, &[]) != 0)
 }
 
 /// Returns a sentence that says what an input holds, if its beginning shows that it is not what is wanted.

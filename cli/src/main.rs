@@ -5,6 +5,7 @@
 mod answer;
 mod arc;
 mod ask;
+mod belongs;
 mod board;
 mod check;
 mod csv;
@@ -24,6 +25,8 @@ mod refusal;
 mod show;
 mod similar;
 mod solve;
+#[allow(unsafe_code)]
+mod standard;
 mod stop;
 mod streams;
 #[allow(unsafe_code)]
@@ -70,7 +73,7 @@ fn run(words: &[String]) -> Result<u8, Stop> {
     let Some((first, rest)) = words.split_first() else {
         return Stop::said("which command? 'lambert-cli --help' lists them");
     };
-    if first == "--help" || first == "-h" {
+    if first == "--help" || first == "-h" || (first == "help" && rest.is_empty()) {
         return say(help::WHOLE);
     }
     if first == "--version" || first == "-V" {

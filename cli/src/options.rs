@@ -23,10 +23,16 @@ impl Options {
             if let Some(flag) = flags.iter().find(|flag| **flag == name && joined.is_none()) {
                 options.put(flag, String::new())?;
             } else if let Some(option) = valued.iter().find(|option| **option == name) {
-                match joined.or_else(|| words.next().cloned()) {
-                    Some(value) => options.put(option, value)?,
-                    None => return Stop::said(format!("{name} needs a value after it")),
-                }
+                let next = |words: &mut std::slice::Iter<String>| match words.next() {
+                    Some(value)
+                        if value == "--" || flags.iter().chain(valued).any(|other| other == value) =>
+                    {
+                        Stop::said(format!("{name} needs a value after it, but {value} is an option"))
+                    }
+                    Some(value) => Ok(value.clone()),
+                    None => Stop::said(format!("{name} needs a value after it")),
+                };
+                options.put(option, joined.map_or_else(|| next(&mut words), Ok)?)?;
             } else if word == "--" {
                 options.files.extend(words.by_ref().cloned());
             } else if word.starts_with('-') && word != "-" {
@@ -80,8 +86,8 @@ fn unknown(word: &str, name: &str, flags: &[&'static str], valued: &[&'static st
     if let Some(flag) = flags.iter().find(|flag| **flag == name) {
         return format!("{flag} takes no value, but {} gives it one", shortened(word));
     }
-    let meant = similar(name, known).map(|option| format!("; did you mean {option}?")).unwrap_or_default();
-    format!("unknown option {}{meant}", shortened(word))
+    let meant = similar(name, known).map(|option| format!("; did you mean {option}?"));
+    format!("unknown option {}{}", shortened(word), meant.unwrap_or("; --help lists the options".into()))
 }
 
 #[cfg(test)]
@@ -120,7 +126,9 @@ mod tests {
         let said = |words: &[&str]| read(words).err().expect("a mistake");
         assert_eq!(said(&["--jobs"]), "--jobs needs a value after it");
         assert_eq!(said(&["--job", "1"]), "unknown option --job; did you mean --jobs?");
-        assert_eq!(said(&["--fast"]), "unknown option --fast");
+        assert_eq!(said(&["--fast"]), "unknown option --fast; --help lists the options");
+        assert_eq!(said(&["-o", "--strict"]), "-o needs a value after it, but --strict is an option");
+        assert_eq!(said(&["-o", "--"]), "-o needs a value after it, but -- is an option");
         assert_eq!(said(&["--jbos=3"]), "unknown option --jbos=3; did you mean --jobs?");
         assert_eq!(said(&["--strict", "--strict"]), "--strict is given twice");
         assert_eq!(said(&["--strict=1"]), "--strict takes no value, but --strict=1 gives it one");

@@ -45,15 +45,21 @@ pub fn stations(question: &[u8]) -> Vec<i64> {
     (0..count).map(|i| unsafe { lambert_station(i as u16) }).collect()
 }
 
-/// Returns the place of a question's last station, or `None` if the question does not pass the entrance checks.
-pub fn last_station(question: &[u8]) -> Option<i64> {
+/// Returns the places of a question's first and last station, or `None` if the question does not pass the entrance checks.
+pub fn first_and_last_station(question: &[u8]) -> Option<[i64; 2]> {
     let count = unsafe { lambert_stations(question.as_ptr(), question.len()) };
-    count.checked_sub(1).map(|i| unsafe { lambert_station(i as u16) })
+    let last = count.checked_sub(1)?;
+    Some([0, last].map(|i| unsafe { lambert_station(i as u16) }))
 }
 
 /// Returns the bits of the time at the place `k` of a question, or all ones if there is none.
 pub fn time(question: &[u8], k: i64) -> u64 {
     unsafe { lambert_time(question.as_ptr(), question.len(), k) }
+}
+
+/// Returns the time with these bits, or `None` if they are all ones. No time has all ones as its bits.
+pub fn known(bits: u64) -> Option<f64> {
+    Some(bits).filter(|bits| *bits != u64::MAX).map(f64::from_bits)
 }
 
 /// Posts a record to a board. Returns `TAKEN`, or the number of the refusal; a refusal does not change the board.

@@ -3,7 +3,7 @@
 pub mod nothing_found;
 
 /// What no refusal says.
-const NOT_SAID: &str = "this does not say that no transfer exists";
+pub const NOT_SAID: &str = "this does not say that no transfer exists";
 
 /// Returns the meaning of a refusal as one sentence that fits a line.
 pub fn short(number: u16) -> String {
@@ -15,6 +15,18 @@ pub fn words(number: u16) -> String {
     match number {
         11 => row(number).into(),
         _ => format!("{} ({NOT_SAID})", row(number)),
+    }
+}
+
+/// Returns what to do about a refusal.
+pub fn advice(number: u16) -> &'static str {
+    match number {
+        1 => "write the question again, with 'lambert-cli ask' or your own program",
+        2..=6 => "correct the question",
+        7 => "give the calling program a larger buffer",
+        8..=10 => "recompute the positions for another time of departure or arrival",
+        11 => "change the time, ask for another number of revolutions, or try the other way round",
+        _ => "keep the question and report it: no such question is known",
     }
 }
 

@@ -1,5 +1,6 @@
 //! The reasons why a command stops early, and messages to standard error.
 
+use crate::words::printable;
 use std::io::{self, Write};
 
 pub enum Stop {
@@ -18,13 +19,13 @@ impl Stop {
     pub fn writing(name: &str, error: &io::Error) -> Stop {
         match error.kind() {
             io::ErrorKind::BrokenPipe => Stop::PipeClosed,
-            _ => Stop::Said(format!("cannot write {name}: {error}")),
+            _ => Stop::Said(format!("cannot write {}: {error}", printable(name))),
         }
     }
 
     /// Returns the reason for a read that failed.
     pub fn reading(name: &str, error: &io::Error) -> Stop {
-        Stop::Said(format!("cannot read {name}: {error}"))
+        Stop::Said(format!("cannot read {}: {error}", printable(name)))
     }
 }
 

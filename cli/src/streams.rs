@@ -2,7 +2,9 @@
 
 mod beside;
 
+use crate::standard;
 use crate::stop::{tell, Stop};
+use crate::words::printable;
 use beside::Beside;
 use std::fs::{File, Metadata};
 use std::io::{self, BufWriter, IsTerminal, Read, Write};
@@ -29,6 +31,9 @@ impl Input {
     pub fn open(name: Option<&str>) -> Result<Input, Stop> {
         match name {
             None | Some("-") => {
+                if standard::input_is_closed() {
+                    return Stop::said("standard input is closed, so there is nothing to read");
+                }
                 if io::stdin().is_terminal() {
                     tell(
                         "waiting for standard input, which is a terminal; end it with Ctrl-D, or name a file",
@@ -36,10 +41,11 @@ impl Input {
                 }
                 Ok(Input { name: "standard input".into(), bytes: Box::new(io::stdin()), file: None })
             }
+            Some("") => Stop::said("the name of a file to read is empty"),
             Some(name) => {
                 let opened = File::open(name).and_then(|file| Ok((file.metadata()?, file)));
                 let (about, file) = opened.map_err(|e| Stop::reading(name, &e))?;
-                Ok(Input { name: name.into(), bytes: Box::new(file), file: Some(about) })
+                Ok(Input { name: printable(name), bytes: Box::new(file), file: Some(about) })
             }
         }
     }
@@ -74,9 +80,15 @@ impl Output {
     /// overwritten.
     pub fn open(name: Option<&str>, inputs: &[Option<FileId>]) -> Result<Output, Stop> {
         let Some(name) = name.filter(|name| *name != "-") else {
+            if standard::output_is_closed() {
+                return Stop::said("standard output is closed, so nothing can be written to it");
+            }
             let bytes = BufWriter::new(Box::new(io::stdout()) as Box<dyn Write>);
             return Ok(Output { name: "standard output".into(), bytes, beside: None });
         };
+        if name.is_empty() {
+            return Stop::said("the name of the file to write is empty");
+        }
         let present = std::fs::metadata(name).ok();
         let id = present.as_ref().filter(|file| file.is_file()).map(FileId::of);
         if id.is_some() && inputs.contains(&id) {

@@ -47,16 +47,23 @@ pub fn duration(seconds: f64) -> String {
     format!("{} {unit}", rounded.trim_end_matches('0').trim_end_matches('.'))
 }
 
+/// Returns a text from outside with its control characters escaped, so that it cannot break a line or change a terminal.
+pub fn printable(text: &str) -> String {
+    let parts = text.chars().map(|c| if c.is_control() { c.escape_default().to_string() } else { c.into() });
+    parts.collect()
+}
+
 /// The most characters of a text from outside that a message repeats.
 const MOST: usize = 60;
 
 /// Returns a text from outside for a message. If it is long, only its beginning is repeated, and its length is said.
 pub fn shortened(text: &str) -> String {
     let count = text.chars().count();
+    let start = printable(&text.chars().take(MOST).collect::<String>());
     if count <= MOST {
-        return text.into();
+        return start;
     }
-    format!("{}... ({count} characters)", text.chars().take(MOST).collect::<String>())
+    format!("{start}... ({count} characters)")
 }
 
 /// Returns a text from outside for a message, in quotes.
@@ -116,6 +123,7 @@ mod tests {
     fn long_texts_are_shortened() {
         assert_eq!((shortened("ab"), quoted("a\"")), ("ab".into(), "\"a\\\"\"".into()));
         assert_eq!(shortened(&"é".repeat(60)), "é".repeat(60));
+        assert_eq!((shortened("a\nb"), printable("\u{1b}[31m")), ("a\\nb".into(), "\\u{1b}[31m".into()));
         assert_eq!(shortened(&"é".repeat(61)), format!("{}... (61 characters)", "é".repeat(60)));
         assert_eq!(quoted(&"x".repeat(99)), format!("\"{}\"... (99 characters)", "x".repeat(60)));
         assert_eq!((counted(1, "record"), counted(0, "record")), ("1 record".into(), "0 records".into()));

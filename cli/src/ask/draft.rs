@@ -5,6 +5,7 @@ use crate::mistakes::Mistakes;
 use crate::stop::Stop;
 use crate::streams::Output;
 use crate::wire::{u32_at, u64_at, Question, SLOT};
+use crate::words::printable;
 use std::collections::HashMap;
 use std::fs::{self, File, OpenOptions};
 use std::io::{self, BufReader, BufWriter, Read, Seek, Write};
@@ -20,6 +21,8 @@ const SHARE: u64 = 1 << 15;
 pub struct Draft {
     file: BufWriter<File>,
     count: u64,
+    /// The number of questions that repeat an earlier one.
+    pub repeated: u64,
 }
 
 impl Draft {
@@ -28,7 +31,7 @@ impl Draft {
         let opened = OpenOptions::new().read(true).write(true).create_new(true).open(&path);
         // The name is removed at once: the file lasts as long as it is open.
         let file = opened.and_then(|file| fs::remove_file(&path).map(|()| file)).map_err(failed)?;
-        Ok(Draft { file: BufWriter::new(file), count: 0 })
+        Ok(Draft { file: BufWriter::new(file), count: 0, repeated: 0 })
     }
 
     pub fn add(&mut self, line: usize, question: &Question) -> Result<(), Stop> {
@@ -37,14 +40,19 @@ impl Draft {
         self.file.write_all(&item).map_err(failed)
     }
 
+    pub fn count(&self) -> u64 {
+        self.count
+    }
+
     pub fn write(mut self, output: &mut Output) -> Result<(), Stop> {
         self.each(|_, item| output.put(&item[LINE..]))
     }
 
-    /// Records a mistake for each question whose job and revision an earlier line has with other values. Looks at a
-    /// share of the jobs at a time.
+    /// Records a mistake for each question whose job and revision an earlier line has with other values, and counts those
+    /// that are equal to an earlier one. Looks at a share of the jobs at a time.
     pub fn differing(&mut self, name: &str, mistakes: &mut Mistakes) -> Result<(), Stop> {
         let shares = self.count.div_ceil(SHARE).max(1);
+        let mut repeated = 0;
         for share in 0..shares {
             let mut first = HashMap::new();
             let file = self.file.get_ref().try_clone().map_err(failed)?;
@@ -59,7 +67,9 @@ impl Draft {
                 }
                 let mut earlier = [0; ITEM];
                 file.read_exact_at(&mut earlier, place * ITEM as u64).map_err(failed)?;
-                if earlier[LINE..] != item[LINE..] {
+                if earlier[LINE..] == item[LINE..] {
+                    repeated += 1;
+                } else {
                     let lines = format!("lines {} and {}", u64_at(&earlier, 0), u64_at(item, 0));
                     let (job, revision) = key;
                     mistakes.push(format!(
@@ -69,6 +79,7 @@ impl Draft {
                 Ok(())
             })?;
         }
+        self.repeated = repeated;
         Ok(())
     }
 
@@ -95,5 +106,9 @@ fn share_of((job, revision): (u32, u32), shares: u64) -> u64 {
 }
 
 fn failed(e: io::Error) -> Stop {
-    Stop::Said(format!("cannot keep the questions in a temporary file: {e}"))
+    let folder = std::env::temp_dir();
+    let folder = printable(&folder.to_string_lossy());
+    Stop::Said(format!(
+        "cannot keep the questions in a temporary file in {folder}: {e}; TMPDIR names another folder"
+    ))
 }

@@ -5,9 +5,10 @@ use super::{say_mu, DEFAULT_REVISION, DEFAULT_REVOLUTIONS};
 use crate::csv::{Column, Columns, Row, Rows};
 use crate::fields::{self, BODIES};
 use crate::mistakes::Mistakes;
-use crate::stop::Stop;
+use crate::stop::{tell, Stop};
 use crate::streams::Input;
 use crate::wire::Question;
+use crate::words::counted;
 use std::io::BufReader;
 
 /// The columns of a question. The last two are optional.
@@ -50,6 +51,13 @@ pub fn questions(input: &mut Input, ignore_extra: bool, draft: &mut Draft) -> Re
     }
     draft.differing(&name, &mut mistakes)?;
     mistakes.stop()?;
+    if draft.count() == 0 {
+        tell(&format!("{name}: has a header and no question"));
+    }
+    if draft.repeated > 0 {
+        let repeat = if draft.repeated == 1 { "repeats" } else { "repeat" };
+        tell(&format!("{name}: {} {repeat} an earlier one", counted(draft.repeated, "question")));
+    }
     BODIES.iter().zip(named).filter(|(_, named)| *named).for_each(|(body, _)| say_mu(body.name, body.mu));
     Ok(())
 }

@@ -3,7 +3,9 @@
 
 use super::Row;
 use crate::mistakes::Mistakes;
-use crate::words::quoted;
+use crate::similar::similar;
+use crate::stop::tell;
+use crate::words::{quoted, shortened};
 
 /// A column that a file may have. Its header is the name, or the name with the unit.
 #[derive(Clone, Copy)]
@@ -49,18 +51,22 @@ impl Columns {
         what: &str,
         mistakes: &mut Mistakes,
     ) -> Columns {
-        let file = &self.file;
+        let file = self.file.clone();
+        let mut left_out = Vec::new();
         for name in header.fields.iter().map(|name| name.trim()) {
             let column = known.iter().find(|column| column.is(name)).map(|column| column.name);
-            if column.is_none() && !ignore {
-                let hint = "--ignore-extra leaves such columns out";
-                let told = format!("{}: is not a column of {what}; {hint}", quoted(name));
-                mistakes.push(format!("{file}: line 1, column {told}"));
-            }
-            if column.is_some() && self.names.contains(&column) {
-                mistakes.push(format!("{file}: line 1, column {name}: is there twice"));
+            match column {
+                None if ignore && meant(name, known).is_none() => left_out.push(shortened(name)),
+                None => mistakes.push(format!("{file}: line 1, column {}", unknown(name, known, what))),
+                Some(_) if self.names.contains(&column) => {
+                    mistakes.push(format!("{file}: line 1, column {name}: is there twice"));
+                }
+                Some(_) => {}
             }
             self.names.push(column);
+        }
+        if !left_out.is_empty() {
+            tell(&format!("{file}: the columns that are left out: {}", left_out.join(", ")));
         }
         for column in known[..needed].iter().filter(|column| !self.has(column.name)) {
             mistakes.push(format!("{}: line 1, column {}: is missing", self.file, column.name));
@@ -93,4 +99,19 @@ impl Columns {
         let at = self.names.iter().position(|column| *column == Some(name))?;
         row.fields.get(at).map(String::as_str)
     }
+}
+
+/// Returns the known column that a header resembles, whatever its case.
+fn meant(name: &str, known: &[Column]) -> Option<&'static str> {
+    similar(&name.to_lowercase(), known.iter().map(|column| column.name))
+}
+
+/// Returns a message for a column that is not known.
+fn unknown(name: &str, known: &[Column], what: &str) -> String {
+    let hint = match meant(name, known) {
+        Some(column) => format!("did you mean {column}?"),
+        None if name.contains(';') => "the fields are separated by commas, not by semicolons".into(),
+        None => "--ignore-extra leaves such columns out".into(),
+    };
+    format!("{}: is not a column of {what}; {hint}", quoted(name))
 }

@@ -42,5 +42,5 @@ fn mistakes_have_their_lines() {
     }
     let mut binary = Rows::new(&b"a\n\xff\n"[..]);
     assert!(matches!(binary.next(), Ok(Some(_))));
-    assert!(matches!(binary.next(), Err(Fault::Line(2, words)) if words == "is not UTF-8 text"));
+    assert!(matches!(binary.next(), Err(Fault::Line(2, words)) if words.starts_with("is not UTF-8 text")));
 }

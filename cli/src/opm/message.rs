@@ -5,6 +5,7 @@ use super::outcomes::words_of;
 use super::request::{Key, Request};
 use super::sources::Sources;
 use super::texts;
+use crate::belongs;
 use crate::proved::orbit_message;
 use crate::refusal;
 use crate::show::facts::Facts;
@@ -41,6 +42,12 @@ pub fn make(request: &Request, sources: &Sources) -> Result<OrbitMessage, Vec<St
         Outcome::Answered(entries) => entries,
     };
     let question = sources.questions.find(key).map_err(say)?;
+    if let Some(words) = belongs::fault(question, &record.outcome) {
+        let which = words_of(key);
+        return Err(say(format!(
+            "the record of {which} does not answer the question of that number: {words}"
+        )));
+    }
     let entry = match (request.entry, &entries[..]) {
         (Some(entry), _) => entry,
         (None, [_]) => 1,

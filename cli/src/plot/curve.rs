@@ -17,24 +17,19 @@ pub struct Curve {
 impl Curve {
     /// Returns the curve of a question, or `None` if the question does not pass the entrance checks.
     pub fn of(question: &[u8], outcome: &Outcome) -> Option<Curve> {
-        let place = |k: i64| (x_of(k), known(proved::time(question, k)));
+        let place = |k: i64| (x_of(k), proved::known(proved::time(question, k)));
         let chosen = match outcome {
             Outcome::Refused(_) => Vec::new(),
             Outcome::Answered(entries) => entries.iter().map(|entry| place(entry.chosen())).collect(),
         };
         let stations = proved::stations(question).into_iter().map(place).collect();
-        Some(Curve { wanted: known(proved::wanted(question))?, stations, chosen })
+        Some(Curve { wanted: proved::known(proved::wanted(question))?, stations, chosen })
     }
 
     /// Returns the number of void stations.
     pub fn void(&self) -> usize {
         self.stations.iter().filter(|(_, time)| time.is_none()).count()
     }
-}
-
-/// Returns the time with these bits, or `None` if they are all ones. No time has all ones as its bits.
-fn known(bits: u64) -> Option<f64> {
-    Some(bits).filter(|bits| *bits != u64::MAX).map(f64::from_bits)
 }
 
 #[cfg(test)]

@@ -1,7 +1,7 @@
 //! What number 11 says of one question. Nothing was found, so the times of all shapes searched are on one side of the time
 //! asked for, and the time at the last station tells which. Then more can be said than for the number alone.
 
-use crate::proved;
+use crate::proved::{self, known};
 use crate::wire::Question;
 use crate::words::duration;
 use std::cmp::Ordering;
@@ -53,9 +53,20 @@ pub fn words(question: &Question) -> Option<String> {
     })
 }
 
+/// Returns what to do about a question that was refused with 11, or `None` if the times do not tell.
+pub fn advice(question: &Question) -> Option<String> {
+    Some(match (side(question)?, question.revolutions > 0) {
+        (Side::NoneFaster(last), false) => {
+            format!("ask for at least {}, or use another solver for the faster transfer", duration(last))
+        }
+        (Side::NoneFaster(_), true) => "ask for more time, or for fewer revolutions".into(),
+        (Side::AllFaster(_), _) => "ask for less time, or for more revolutions".into(),
+    })
+}
+
 fn side(question: &Question) -> Option<Side> {
     let slot = question.bytes();
-    let last = proved::last_station(&slot)?;
+    let [_, last] = proved::first_and_last_station(&slot)?;
     let (time, wanted) = (known(proved::time(&slot, last))?, known(proved::wanted(&slot))?);
     let seconds = time / wanted * question.time;
     match time.partial_cmp(&wanted)? {
@@ -64,11 +75,6 @@ fn side(question: &Question) -> Option<Side> {
         // Then the transfer at the last station itself takes the time asked for, which is not a crossing.
         Ordering::Equal => None,
     }
-}
-
-/// Returns the time with these bits, or `None` if they are all ones: then there is none.
-fn known(bits: u64) -> Option<f64> {
-    Some(bits).filter(|bits| *bits != u64::MAX).map(f64::from_bits)
 }
 
 #[cfg(test)]

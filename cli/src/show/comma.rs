@@ -44,6 +44,14 @@ pub fn item(item: &Item) -> String {
     }
 }
 
+/// Returns the last line of an output that a fault has cut short.
+pub fn incomplete(why: &str, with_questions: bool) -> String {
+    let said = ["", "", "incomplete", "", why].map(String::from);
+    let mut fields = Vec::from(said);
+    fields.resize(head(with_questions).split(',').count(), String::new());
+    line(&fields)
+}
+
 /// Returns an empty field for each column of a part of the header.
 fn blanks(columns: &str) -> Vec<String> {
     columns.split(',').map(|_| String::new()).collect()
@@ -66,7 +74,7 @@ fn transfer_fields(transfer: &Transfer) -> Vec<String> {
 fn asked_fields(asked: &Asked, facts: Option<&Facts>) -> Vec<String> {
     let question = match asked {
         Asked::Unknown => return Vec::new(),
-        Asked::NoQuestion => blanks(QUESTION),
+        Asked::NoQuestion(_) => blanks(QUESTION),
         Asked::Known(question) => question_fields(question),
     };
     let tested = facts.map_or_else(|| [NAMES.map(|_| String::new()).into(), blanks(TESTED)].concat(), tested);
@@ -112,7 +120,7 @@ mod tests {
         let question = Question::read(&include_bytes!("../../../samples/questions")[..82]).expect("one");
         let refusals = (1..=14).map(|n| Record { job: 1, revision: 2, outcome: Outcome::Refused(n) });
         let records: Vec<Record> = refusals.chain([answer]).collect();
-        for asked in [Asked::Unknown, Asked::NoQuestion, Asked::Known(question)] {
+        for asked in [Asked::Unknown, Asked::NoQuestion(String::new()), Asked::Known(question)] {
             let lines: String = records.iter().map(|one| item(&Item::new(one, &asked, None))).collect();
             let text = head(!matches!(asked, Asked::Unknown)) + &lines;
             let mut rows = crate::csv::Rows::new(text.as_bytes());

@@ -11,7 +11,7 @@ use crate::words::{self, component};
 pub fn asked(asked: &Asked) -> Vec<String> {
     match asked {
         Asked::Unknown => Vec::new(),
-        Asked::NoQuestion => vec!["asked: the slot is not a question".into()],
+        Asked::NoQuestion(words) => vec![format!("asked: {words}")],
         Asked::Known(question) => vec![format!("asked: {}", words::asked(question).join(", "))],
     }
 }

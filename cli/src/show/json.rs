@@ -27,10 +27,15 @@ pub fn item(item: &Item) -> String {
     }
     match item.asked {
         Asked::Unknown => {}
-        Asked::NoQuestion => fields.push(("question", "null".into())),
+        Asked::NoQuestion(_) => fields.push(("question", "null".into())),
         Asked::Known(question) => fields.push(("question", question_of(question))),
     }
     object(fields) + "\n"
+}
+
+/// Returns the last line of an output that a fault has cut short.
+pub fn incomplete(why: &str) -> String {
+    object([("outcome", string("incomplete")), ("meaning", string(why))]) + "\n"
 }
 
 fn transfer(transfer: &Transfer) -> String {

@@ -73,7 +73,8 @@ impl Printer {
     pub fn cut(&self, why: &str) -> String {
         match self.view.form {
             Form::Table => self.summary() + &self.lines(&format!("INCOMPLETE: {why}"), Some(Mark::Warning)),
-            _ => String::new(),
+            Form::Json => json::incomplete(why),
+            Form::Csv => comma::incomplete(why, self.with_questions),
         }
     }
 

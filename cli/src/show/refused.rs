@@ -17,3 +17,9 @@ pub fn words(number: u16, question: Option<&Question>) -> String {
     let words = refusal::words(number);
     own.map_or(words.clone(), |own| format!("{words}. {own}"))
 }
+
+/// Returns what to do about a refusal.
+pub fn advice(number: u16, question: Option<&Question>) -> String {
+    let own = question.filter(|_| number == NOTHING_FOUND).and_then(nothing_found::advice);
+    format!("What to do: {}.", own.unwrap_or_else(|| refusal::advice(number).into()))
+}

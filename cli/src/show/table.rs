@@ -9,6 +9,7 @@ use super::pairs::Asked;
 use super::view::View;
 use super::{detail, refused};
 use crate::orbit::{kind, size};
+use crate::refusal;
 use crate::terminal::Mark;
 use crate::wire::{Outcome, Question, Record};
 use crate::words::wrapped;
@@ -80,10 +81,13 @@ impl Table {
 
     fn refusal(&self, names: [String; 2], number: u16, item: &Item, view: &View) -> String {
         let question = item.question();
-        let line = format!("refused {number}: {}", refused::short(number, question));
+        let line = match item.asked {
+            Asked::NoQuestion(why) => format!("refused {number}: {why}; {}", refusal::NOT_SAID),
+            _ => format!("refused {number}: {}", refused::short(number, question)),
+        };
         let mut lines = vec![line];
         if view.explain {
-            lines.push(refused::words(number, question));
+            lines.extend([refused::words(number, question), refused::advice(number, question)]);
         }
         let text = self.indented(&lines, view);
         let text = view.colour.paint(Mark::Refusal, &text);
@@ -136,9 +140,9 @@ pub fn notes(with_questions: bool, view: &View) -> String {
     let notes: &[&str] = if with_questions {
         &[
             "perigee and apogee are distances from the centre. dv1 and dv2 are the velocity changes from and to a \
-             circular orbit through r1 and r2, in the transfer's plane and sense. miss is the distance from r2 at \
-             arrival, by propagation. These, the inclination and the warnings are computed for this table: they are \
-             tested, not proved.",
+             circular orbit through r1 and r2 in the transfer's own plane and direction: changing the plane or the \
+             direction of another orbit costs more. miss is the distance from r2 at arrival, by propagation. All this, \
+             the inclination and the warnings are computed for this table: they are tested, not proved.",
         ]
     } else {
         &["perigee, apogee, inclination, velocity changes, the miss at r2 and warnings need the questions: \

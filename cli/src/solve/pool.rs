@@ -16,6 +16,10 @@ pub struct Reply {
     pub records: Vec<u8>,
     pub questions: u64,
     pub refused: u64,
+    /// The number of slots that are not questions: they are refused with number 1.
+    pub damaged: u64,
+    /// The size of a slot that is cut short. Only the last slot of an input can be.
+    pub cut: Option<usize>,
 }
 
 struct Work {
@@ -52,11 +56,14 @@ pub fn start(input: Box<dyn Read + Send>, jobs: usize) -> Replies {
 fn answer(work: &Mutex<Receiver<Work>>) {
     loop {
         let Ok(Ok(next)) = work.lock().map(|queue| queue.recv()) else { return };
-        let mut reply = Reply { records: Vec::new(), questions: 0, refused: 0 };
+        let mut reply = Reply { records: Vec::new(), questions: 0, refused: 0, damaged: 0, cut: None };
         for slot in next.slots.chunks(SLOT) {
             let record = record_of(slot);
             reply.questions += 1;
-            reply.refused += u64::from(record[4] == 3);
+            let refused = record[4] == 3;
+            reply.refused += u64::from(refused);
+            reply.damaged += u64::from(refused && record[14] == 1);
+            reply.cut = Some(slot.len()).filter(|size| *size < SLOT);
             reply.records.extend(record);
         }
         // This fails only if the replies are no longer taken. Then nobody needs this one.

@@ -6,15 +6,20 @@ use std::io;
 use std::path::{Path, PathBuf};
 
 pub struct Beside {
+    file: File,
     made: PathBuf,
     name: PathBuf,
 }
 
 impl Beside {
-    /// Creates the file beside `name`. If `name` is a link, the file that it means will be replaced or made, and a file that is
-    /// replaced passes on its permissions.
+    /// Creates the file beside `name`. If `name` is a link, the file that it means will be replaced or made. A file that is replaced
+    /// passes on its permissions; if they do not allow writing, nothing is created.
     pub fn create(name: &str) -> io::Result<(File, Beside)> {
         let name = followed(name)?;
+        let present = fs::metadata(&name).ok();
+        if present.is_some() {
+            OpenOptions::new().write(true).open(&name)?;
+        }
         let Some(last) = name.file_name() else { return Err(io::ErrorKind::IsADirectory.into()) };
         // A name may be as long as the system allows, so only its beginning is used.
         let start: String = last.to_string_lossy().chars().take(50).collect();
@@ -22,8 +27,8 @@ impl Beside {
             .map(|other| create_new(name.with_file_name(part(&start, other))))
             .find(|made| !matches!(made, Err(e) if e.kind() == io::ErrorKind::AlreadyExists))
             .unwrap_or_else(|| Err(io::ErrorKind::AlreadyExists.into()))?;
-        let beside = Beside { made, name };
-        if let Ok(present) = fs::metadata(&beside.name) {
+        let beside = Beside { file: file.try_clone()?, made, name };
+        if let Some(present) = present {
             fs::set_permissions(&beside.made, present.permissions())?;
         }
         Ok((file, beside))
@@ -31,7 +36,7 @@ impl Beside {
 
     /// Puts the bytes on the disk and gives the file its name.
     pub fn finish(self) -> io::Result<()> {
-        File::open(&self.made)?.sync_all()?;
+        self.file.sync_all()?;
         fs::rename(&self.made, &self.name)
     }
 }

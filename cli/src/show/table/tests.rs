@@ -30,7 +30,7 @@ fn every_refusal_is_one_line_and_explained_if_asked() {
         let explained = text(&View { explain: true, ..view(None) });
         let words: Vec<&str> = explained.split_whitespace().skip(2).collect();
         let all = format!("refused {number}: {} {}", refusal::short(number), refusal::words(number));
-        assert_eq!(words.join(" "), all);
+        assert_eq!(words.join(" "), format!("{all} What to do: {}.", refusal::advice(number)));
     }
 }
 
