@@ -1,15 +1,19 @@
-//! Runs every command of the real program on damaged inputs. Whatever the damage is, each run has to keep the rules of
-//! `rules`. The damage is random, but its seed is fixed, so that this test always tries the same inputs.
+//! Runs every command of the real program on damaged inputs. Whatever the damage is, each run has to keep the rules in
+//! `rules` and `commands`. The damage is random, but its seed is fixed, so that this test always tries the same inputs.
 //!
 //! `LAMBERT` names the program lambert, whose records `solve` has to write. `LAMBERT_SEED`, a whole number, may give
 //! another seed.
 
 #[path = "fuzz/bytes.rs"]
 mod bytes;
+#[path = "fuzz/case.rs"]
+mod case;
 #[path = "fuzz/cases.rs"]
 mod cases;
 #[path = "fuzz/chance.rs"]
 mod chance;
+#[path = "fuzz/commands.rs"]
+mod commands;
 #[path = "fuzz/folder.rs"]
 mod folder;
 #[path = "fuzz/opm.rs"]
@@ -21,7 +25,7 @@ mod samples;
 #[path = "fuzz/texts.rs"]
 mod texts;
 
-use cases::Case;
+use case::Case;
 use chance::Chance;
 use folder::Folder;
 use samples::Samples;

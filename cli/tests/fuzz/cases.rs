@@ -1,78 +1,11 @@
 //! Damaged inputs for each command but `opm`.
 
 use crate::bytes::{self, board_fields, question_fields, record_fields};
+use crate::case::Case;
 use crate::chance::Chance;
-use crate::folder::{Folder, Found};
-use crate::rules;
+use crate::commands;
 use crate::samples::Samples;
 use crate::texts;
-use std::ffi::OsString;
-use std::os::unix::ffi::OsStringExt;
-
-/// One run of a command.
-pub struct Case {
-    pub words: Vec<OsString>,
-    /// The files in the working folder. The file `out` is an old output.
-    pub files: Vec<(&'static str, Vec<u8>)>,
-    /// The file that is standard input.
-    pub input: Option<&'static str>,
-    /// The rules of this command beside those for every run.
-    pub also: fn(&Case, &Found, &Folder) -> Result<(), String>,
-}
-
-impl Case {
-    pub fn of(words: &[&str]) -> Case {
-        let words = words.iter().map(OsString::from).collect();
-        Case { words, files: Vec::new(), input: None, also: |_, _, _| Ok(()) }
-    }
-
-    pub fn has(&self, word: &str) -> bool {
-        self.words.iter().any(|given| given == word)
-    }
-
-    pub fn word(&mut self, word: &str) {
-        self.words.push(word.into());
-    }
-
-    pub fn value(&mut self, value: Vec<u8>) {
-        self.words.push(OsString::from_vec(value));
-    }
-
-    /// Adds each of these words or leaves it out.
-    pub fn perhaps(&mut self, chance: &mut Chance, words: &[&str]) {
-        words.iter().filter(|_| chance.one_in(4)).for_each(|word| self.word(word));
-    }
-
-    /// Adds at most one of the words for a form of output.
-    pub fn form(&mut self, chance: &mut Chance, words: &[&str]) {
-        if !chance.one_in(words.len() + 1) {
-            self.word(chance.pick(words));
-        }
-    }
-
-    /// Adds an input: a file with this name, or standard input.
-    pub fn read(&mut self, chance: &mut Chance, name: &'static str, bytes: Vec<u8>) {
-        self.files.push((name, bytes));
-        match chance.below(4) {
-            0 => self.input = Some(name),
-            1 => {
-                self.input = Some(name);
-                self.word("-");
-            }
-            _ => self.word(name),
-        }
-    }
-
-    /// Writes to standard output, to a new file or to a file that is there.
-    pub fn write(&mut self, chance: &mut Chance) {
-        if chance.one_in(2) {
-            self.words.extend(["-o".into(), "out".into()]);
-            if chance.one_in(2) {
-                self.files.push(("out", rules::OLD.to_vec()));
-            }
-        }
-    }
-}
 
 /// Returns one to three of the sample questions, so that solving them takes little time.
 fn few(chance: &mut Chance, samples: &Samples) -> Vec<u8> {
@@ -102,7 +35,7 @@ pub fn ask_list(chance: &mut Chance, samples: &Samples) -> Case {
     }
     case.perhaps(chance, &["--ignore-extra"]);
     case.write(chance);
-    case.also = rules::asked;
+    case.also = commands::asked;
     case
 }
 
@@ -138,7 +71,7 @@ pub fn ask_options(chance: &mut Chance, _: &Samples) -> Case {
     let mut case = Case::of(&["ask"]);
     options(chance, &mut case, &ASKED);
     case.write(chance);
-    case.also = rules::asked;
+    case.also = commands::asked;
     case
 }
 
@@ -158,7 +91,7 @@ pub fn solve(chance: &mut Chance, samples: &Samples) -> Case {
     case.read(chance, "in", questions);
     case.perhaps(chance, &["--strict"]);
     case.write(chance);
-    case.also = rules::solved;
+    case.also = commands::solved;
     case
 }
 
@@ -194,7 +127,7 @@ pub fn plot(chance: &mut Chance, samples: &Samples) -> Case {
         }
     }
     case.write(chance);
-    case.also = rules::drawn;
+    case.also = commands::drawn;
     case
 }
 
@@ -210,7 +143,7 @@ pub fn board(chance: &mut Chance, samples: &Samples) -> Case {
     case.form(chance, &["--bytes", "--json", "--csv"]);
     case.perhaps(chance, &["--strict"]);
     case.write(chance);
-    case.also = rules::posted;
+    case.also = commands::posted;
     case
 }
 
@@ -228,7 +161,7 @@ pub fn check_records(chance: &mut Chance, samples: &Samples) -> Case {
     let mut case = Case::of(&["check"]);
     let records = records(chance, samples);
     case.read(chance, "in", records);
-    case.also = rules::shown;
+    case.also = commands::shown;
     case
 }
 
@@ -236,7 +169,7 @@ pub fn check_questions(chance: &mut Chance, samples: &Samples) -> Case {
     let mut case = Case::of(&["check", "--questions"]);
     let questions = questions(chance, samples);
     case.read(chance, "in", questions);
-    case.also = rules::checked;
+    case.also = commands::checked;
     case
 }
 

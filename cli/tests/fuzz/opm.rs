@@ -1,9 +1,10 @@
 //! Damaged inputs for `opm`.
 
 use crate::bytes::{self, question_fields, record_fields};
-use crate::cases::{options, Case};
+use crate::case::Case;
+use crate::cases::options;
 use crate::chance::Chance;
-use crate::rules;
+use crate::commands;
 use crate::samples::{Samples, TEXTS};
 use crate::texts;
 
@@ -35,7 +36,7 @@ pub fn single(chance: &mut Chance, samples: &Samples) -> Case {
         }),
     }
     case.write(chance);
-    case.also = rules::messages;
+    case.also = commands::messages;
     case
 }
 
@@ -47,7 +48,7 @@ pub fn list(chance: &mut Chance, samples: &Samples) -> Case {
     case.files.push(("list", if chance.one_in(5) { samples.messages_list.clone() } else { list }));
     case.perhaps(chance, &["--ignore-extra"]);
     case.words.extend(["--to".into(), chance.pick(&["to", "to", "to/", "to/new", "list/to"]).into()]);
-    case.also = rules::messages;
+    case.also = commands::messages;
     case
 }
 
