@@ -5,36 +5,57 @@
 use crate::proved;
 use crate::wire::{Entry, Outcome, Question};
 
-/// Returns why the outcome cannot be that of the question, or `None` if it can. The question is well-formed.
+/// Returns why the outcome cannot be that of the question, or `None` if no reason was found. The question is well-formed.
 pub fn fault(question: &Question, outcome: &Outcome) -> Option<String> {
     let slot = question.bytes();
-    match (proved::first_and_last_station(&slot), outcome) {
-        (None, Outcome::Answered(_) | Outcome::Refused(11..=14)) => {
+    match (proved::station_count(&slot), outcome) {
+        (0, Outcome::Answered(_) | Outcome::Refused(11..=14)) => {
             Some("the question is refused before anything is searched, and the record says otherwise".into())
         }
         // Number 7 depends on the buffer of the program that asked the solver.
-        (None, Outcome::Refused(_)) | (Some(_), Outcome::Refused(7)) => None,
-        (Some(_), Outcome::Refused(number @ ..=10)) => {
+        (0, Outcome::Refused(_)) | (_, Outcome::Refused(7)) => None,
+        (_, Outcome::Refused(number @ ..=10)) => {
             Some(format!("the record is refused with {number}, and the question has no such fault"))
         }
-        (Some([first, last]), Outcome::Refused(11)) => {
-            let found = crosses(&slot, first, last)?;
-            found.then(|| "the record says that nothing was found, and the search has a transfer".into())
-        }
-        (Some(_), Outcome::Refused(_)) => None,
-        (Some(_), Outcome::Answered(entries)) => {
-            let wrong = |entry: &Entry| crosses(&slot, entry.low, entry.low + entry.width()) != Some(true);
+        (count, Outcome::Refused(11)) => stations_differ(&slot, count)?
+            .then(|| "the record says that nothing was found, and the search has a transfer".into()),
+        (_, Outcome::Refused(_)) => None,
+        (_, Outcome::Answered(entries)) => {
+            let wrong = |entry: &Entry| {
+                let [low, high] = [entry.low, entry.low + entry.width()].map(|k| is_below(&slot, k));
+                low.is_none() || high.is_none() || low == high
+            };
             let at = entries.iter().position(wrong)?;
             Some(format!("transfer {} of the record does not take the time asked for", at + 1))
         }
     }
 }
 
-/// Reports whether the times at two places are on different sides of the time asked for, or `None` if one has no time.
-fn crosses(slot: &[u8], low: i64, high: i64) -> Option<bool> {
+/// Reports whether stations on different sides of the time asked for were found. It looks at the first and the last station, and then
+/// towards the least time, by thirds. Returns `None` if a station has no time.
+fn stations_differ(slot: &[u8], count: u64) -> Option<bool> {
+    let below = |i: u64| is_below(slot, proved::station(i));
+    let (mut low, mut high) = (0, count - 1);
+    let side = below(low)?;
+    let mut differ = below(high)? != side;
+    while !differ && high - low > 2 {
+        let (left, right) = (low + (high - low) / 3, high - (high - low) / 3);
+        differ = below(left)? != side || below(right)? != side;
+        let [at_left, at_right] =
+            [left, right].map(|i| proved::known(proved::time(slot, proved::station(i))));
+        if at_left? < at_right? {
+            high = right;
+        } else {
+            low = left;
+        }
+    }
+    Some(differ)
+}
+
+/// Reports whether the time at a place is below the time asked for, or `None` if the place has no time.
+fn is_below(slot: &[u8], k: i64) -> Option<bool> {
     let wanted = proved::known(proved::wanted(slot))?;
-    let below = |k: i64| proved::known(proved::time(slot, k)).map(|time| time < wanted);
-    Some(below(low)? != below(high)?)
+    Some(proved::known(proved::time(slot, k))? < wanted)
 }
 
 #[cfg(test)]

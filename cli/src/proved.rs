@@ -39,17 +39,19 @@ pub fn wanted(question: &[u8]) -> u64 {
     unsafe { lambert_wanted(question.as_ptr(), question.len()) }
 }
 
-/// Returns the places of a question's stations. The list is empty if the question does not pass the entrance checks.
-pub fn stations(question: &[u8]) -> Vec<i64> {
-    let count = unsafe { lambert_stations(question.as_ptr(), question.len()) };
-    (0..count).map(|i| unsafe { lambert_station(i as u16) }).collect()
+/// Returns the number of a question's stations. It is 0 if the question does not pass the entrance checks.
+pub fn station_count(question: &[u8]) -> u64 {
+    unsafe { lambert_stations(question.as_ptr(), question.len()) }
 }
 
-/// Returns the places of a question's first and last station, or `None` if the question does not pass the entrance checks.
-pub fn first_and_last_station(question: &[u8]) -> Option<[i64; 2]> {
-    let count = unsafe { lambert_stations(question.as_ptr(), question.len()) };
-    let last = count.checked_sub(1)?;
-    Some([0, last].map(|i| unsafe { lambert_station(i as u16) }))
+/// Returns the place of the station with this index. The first station has the index 0.
+pub fn station(i: u64) -> i64 {
+    unsafe { lambert_station(i as u16) }
+}
+
+/// Returns the places of a question's stations. The list is empty if the question does not pass the entrance checks.
+pub fn stations(question: &[u8]) -> Vec<i64> {
+    (0..station_count(question)).map(station).collect()
 }
 
 /// Returns the bits of the time at the place `k` of a question, or all ones if there is none.

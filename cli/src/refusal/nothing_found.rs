@@ -66,7 +66,7 @@ pub fn advice(question: &Question) -> Option<String> {
 
 fn side(question: &Question) -> Option<Side> {
     let slot = question.bytes();
-    let [_, last] = proved::first_and_last_station(&slot)?;
+    let last = proved::station(proved::station_count(&slot).checked_sub(1)?);
     let (time, wanted) = (known(proved::time(&slot, last))?, known(proved::wanted(&slot))?);
     let seconds = time / wanted * question.time;
     match time.partial_cmp(&wanted)? {
