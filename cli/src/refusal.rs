@@ -20,79 +20,128 @@ pub fn words(number: u16) -> String {
 
 /// Returns what to do about a refusal.
 pub fn advice(number: u16) -> &'static str {
-    match number {
-        1 => "write the question again, with 'lambert-cli ask' or your own program",
-        2..=6 => "correct the question",
-        7 => "give the calling program a larger buffer",
-        8..=10 => "recompute the positions for another time of departure or arrival",
-        11 => "change the time, ask for another number of revolutions, or try the other way round",
-        _ => "keep the question and report it: no such question is known",
-    }
+    meaning(number).map_or("keep the record and report it", |meaning| meaning.advice)
 }
 
 fn gist(number: u16) -> &'static str {
-    match number {
-        1 => "damaged, or not a question",
-        2 => "a position is out of range",
-        3 => "a distance from the centre is out of range",
-        4 => "mu is out of range",
-        5 => "the time is out of range",
-        6 => "more than 16 whole revolutions",
-        7 => "the answer buffer is too small",
-        8 => "the positions do not define a plane",
-        9 => "the positions are too close together",
-        10 => "the triangle is flat",
-        11 => "nothing was found among the shapes searched",
-        12 => "nothing was found in an incomplete search",
-        13 => "more transfers than an answer can hold",
-        14 => "a velocity is not finite",
-        _ => "not a number of the table",
-    }
+    meaning(number).map_or(UNKNOWN, |meaning| meaning.gist)
 }
 
-/// The row of a number in the table of docs/FORMAT.md. The row of 11 itself says what it does not say.
+/// Returns the row of a number in the table of docs/FORMAT.md. The row of 11 itself says what it does not say.
 fn row(number: u16) -> &'static str {
-    match number {
-        1 => {
-            "the record is damaged or not a question: wrong size, length or kind, job 0, way above 1, or \
-             spare not 0"
-        }
-        2 => "a position component is not finite, or exceeds 2^40 km in size",
-        3 => "a distance from the centre is below 1 km or above 2^40 km",
-        4 => "the gravitational parameter is not finite, below 1 or above 2^60",
-        5 => "the time is not finite, below 1 s or above 2^40 s",
-        6 => "more than 16 whole revolutions were asked for",
-        7 => "the answer buffer has fewer than 528 bytes",
-        8 => {
-            "the two positions do not define a plane: they are equal, or on one line with the centre to \
-             within about a millionth (2^-20) of a radian"
-        }
-        9 => {
-            "the chord is too short: the distance between the positions is below 1/1024 of half the \
-             triangle's perimeter"
-        }
-        10 => {
-            "the triangle is flat: the two distances from the centre differ by the whole chord, as far as \
-             an f64 can tell"
-        }
-        11 => {
-            "nothing was found among the shapes searched. Searched were ellipses and, without whole \
-             revolutions, the parabola and hyperbolas: x from -4095/4096 to 4 (with whole revolutions to \
-             4095/4096) in steps of 1/4096. Every step has a flight time, and no two neighbouring steps \
-             have times on different sides of the time asked for. This does not say that no transfer \
-             exists: faster transfers than the search reaches may exist (without whole revolutions, \
-             hyperbolas beyond x = 4), and slower ones (ellipses beyond the ends of the range), and two \
-             nearly equal transfers may lie between two steps"
-        }
-        12 => {
-            "nothing was found, but at least one step of the search has no flight time, so a transfer \
-             there would be missed: the search is incomplete, and nothing follows from it"
-        }
-        13 => "more than eight crossings were found, and an answer holds at most eight",
-        14 => "a velocity of at least one transfer is not finite",
-        _ => "not a number of the table",
-    }
+    meaning(number).map_or(UNKNOWN, |meaning| meaning.row)
 }
+
+const UNKNOWN: &str = "not a number of the table";
+
+struct Meaning {
+    gist: &'static str,
+    row: &'static str,
+    advice: &'static str,
+}
+
+fn meaning(number: u16) -> Option<&'static Meaning> {
+    MEANINGS.get(usize::from(number).checked_sub(1)?)
+}
+
+/// The meanings of the numbers from 1 on.
+static MEANINGS: [Meaning; 14] = [
+    // 1
+    Meaning {
+        gist: "damaged, or not a question",
+        row: "the record is damaged or not a question: wrong size, length or kind, job 0, way above 1, or \
+              spare not 0",
+        advice: "write the question again, with 'lambert-cli ask' or your own program",
+    },
+    // 2
+    Meaning {
+        gist: "a position is out of range",
+        row: "a position component is not finite, or exceeds 2^40 km in size",
+        advice: "correct the question",
+    },
+    // 3
+    Meaning {
+        gist: "a distance from the centre is out of range",
+        row: "a distance from the centre is below 1 km or above 2^40 km",
+        advice: "correct the question",
+    },
+    // 4
+    Meaning {
+        gist: "mu is out of range",
+        row: "the gravitational parameter is not finite, below 1 or above 2^60",
+        advice: "correct the question",
+    },
+    // 5
+    Meaning {
+        gist: "the time is out of range",
+        row: "the time is not finite, below 1 s or above 2^40 s",
+        advice: "correct the question",
+    },
+    // 6
+    Meaning {
+        gist: "more than 16 whole revolutions",
+        row: "more than 16 whole revolutions were asked for",
+        advice: "correct the question",
+    },
+    // 7
+    Meaning {
+        gist: "the answer buffer is too small",
+        row: "the answer buffer has fewer than 528 bytes",
+        advice: "give the calling program a larger buffer",
+    },
+    // 8
+    Meaning {
+        gist: "the positions do not define a plane",
+        row: "the two positions do not define a plane: they are equal, or on one line with the centre to \
+              within about a millionth (2^-20) of a radian",
+        advice: "recompute the positions for another time of departure or arrival",
+    },
+    // 9
+    Meaning {
+        gist: "the positions are too close together",
+        row: "the chord is too short: the distance between the positions is below 1/1024 of half the \
+              triangle's perimeter",
+        advice: "recompute the positions for another time of departure or arrival",
+    },
+    // 10
+    Meaning {
+        gist: "the triangle is flat",
+        row: "the triangle is flat: the two distances from the centre differ by the whole chord, as far as \
+              an f64 can tell",
+        advice: "recompute the positions for another time of departure or arrival",
+    },
+    // 11
+    Meaning {
+        gist: "nothing was found among the shapes searched",
+        row: "nothing was found among the shapes searched. Searched were ellipses and, without whole \
+              revolutions, the parabola and hyperbolas: x from -4095/4096 to 4 (with whole revolutions to \
+              4095/4096) in steps of 1/4096. Every step has a flight time, and no two neighbouring steps \
+              have times on different sides of the time asked for. This does not say that no transfer \
+              exists: faster transfers than the search reaches may exist (without whole revolutions, \
+              hyperbolas beyond x = 4), and slower ones (ellipses beyond the ends of the range), and two \
+              nearly equal transfers may lie between two steps",
+        advice: "change the time, ask for another number of revolutions, or try the other way round",
+    },
+    // 12
+    Meaning {
+        gist: "nothing was found in an incomplete search",
+        row: "nothing was found, but at least one step of the search has no flight time, so a transfer \
+              there would be missed: the search is incomplete, and nothing follows from it",
+        advice: "keep the question and report it: no such question is known",
+    },
+    // 13
+    Meaning {
+        gist: "more transfers than an answer can hold",
+        row: "more than eight crossings were found, and an answer holds at most eight",
+        advice: "keep the question and report it: no such question is known",
+    },
+    // 14
+    Meaning {
+        gist: "a velocity is not finite",
+        row: "a velocity of at least one transfer is not finite",
+        advice: "keep the question and report it: no such question is known",
+    },
+];
 
 #[cfg(test)]
 mod tests {
