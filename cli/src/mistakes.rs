@@ -2,10 +2,13 @@
 
 use crate::stop::Stop;
 use crate::words::counted;
+use std::collections::HashSet;
 
 /// The mistakes found so far, each with the option or the line and column where it is.
 pub struct Mistakes {
     list: Vec<String>,
+    /// The mistakes of the list, to find one that is there.
+    kept: HashSet<String>,
     /// The most mistakes that are kept. The others are only counted: a file can have very many.
     most: usize,
     more: u64,
@@ -13,14 +16,14 @@ pub struct Mistakes {
 
 impl Default for Mistakes {
     fn default() -> Mistakes {
-        Mistakes { list: Vec::new(), most: 20, more: 0 }
+        Mistakes { list: Vec::new(), kept: HashSet::new(), most: 20, more: 0 }
     }
 }
 
 impl Mistakes {
-    /// Returns an empty list that will keep every mistake.
-    pub fn all() -> Mistakes {
-        Mistakes { most: usize::MAX, ..Mistakes::default() }
+    /// Returns an empty list that will keep many mistakes.
+    pub fn many() -> Mistakes {
+        Mistakes { most: 1000, ..Mistakes::default() }
     }
 
     pub fn take<T: Default>(&mut self, place: &str, read: Result<T, String>) -> T {
@@ -32,16 +35,17 @@ impl Mistakes {
 
     pub fn push(&mut self, mistake: String) {
         if self.list.len() < self.most {
+            self.kept.insert(mistake.clone());
             self.list.push(mistake);
         } else {
             self.more += 1;
         }
     }
 
-    /// Adds mistakes, each of them once.
+    /// Adds mistakes that are not kept yet.
     pub fn add(&mut self, mistakes: Vec<String>) {
         mistakes.into_iter().for_each(|mistake| {
-            if !self.list.contains(&mistake) {
+            if !self.kept.contains(&mistake) {
                 self.push(mistake);
             }
         });

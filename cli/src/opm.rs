@@ -87,7 +87,7 @@ fn request(options: &Options, given: [Option<Text>; 8], mistakes: &mut Mistakes)
 
 /// Writes the orbit messages of a list. It makes all of them before it writes the first.
 fn listed(options: &Options) -> Result<u8, Stop> {
-    let mut mistakes = Mistakes::all();
+    let mut mistakes = Mistakes::many();
     missing(options, &["--questions", "--to"], &mut mistakes);
     mistakes.stop()?;
     let folder = options.value("--to").unwrap_or_default();
