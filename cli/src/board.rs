@@ -2,7 +2,9 @@
 
 mod comma;
 mod conflict;
+mod content;
 mod difference;
+mod foot;
 mod json;
 mod names;
 mod origins;
@@ -18,6 +20,7 @@ use crate::streams::{FileId, Input, Output};
 use crate::terminal::{columns, Colour};
 use crate::wire::slots::{filled, Held, BOARD};
 use crate::words::counted;
+use names::shown;
 use posting::Posting;
 use std::io::Read;
 use table::Look;
@@ -71,12 +74,31 @@ fn read(input: &mut Input) -> Result<Vec<u8>, Stop> {
     Stop::said(format!("{name}: B0, not a board: {why}"))
 }
 
-/// Writes the board in the form that is asked for. If the reader of standard output does not see what is missing on the board,
-/// prints it to standard error.
+/// Writes the board in the form that is asked for. If it is incomplete, a file is not written: a complete board under this name is not
+/// replaced, and the bytes of a board cannot say that it is incomplete.
 fn write(posting: &Posting, options: &Options, ids: &[Option<FileId>]) -> Result<(), Stop> {
-    let name = options.value("-o");
-    let to_file = name.is_some_and(|name| name != "-");
-    let bytes = if options.has("--bytes") {
+    let name = options.value("-o").filter(|name| *name != "-");
+    let incomplete = posting.tally.incomplete();
+    if let (Some(name), Some(words)) = (name, &incomplete) {
+        tell(words);
+        tell(&format!("{} is not written, because the board is incomplete", shown(name)));
+        return Ok(());
+    }
+    let bytes = form(posting, options, name.is_some());
+    let mut output = match options.has("--bytes") {
+        true => Output::open_bytes(name, ids, "-o OUT writes the board to a file")?,
+        false => Output::open(name, ids)?,
+    };
+    if ["--bytes", "--json", "--csv"].iter().any(|form| options.has(form)) {
+        incomplete.into_iter().for_each(|words| tell(&words));
+    }
+    output.put(&bytes)?;
+    output.finish()
+}
+
+/// Returns the bytes of the board in the form that is asked for.
+fn form(posting: &Posting, options: &Options, to_file: bool) -> Vec<u8> {
+    if options.has("--bytes") {
         posting.board.clone()
     } else if options.has("--json") {
         json::lines(posting).into_bytes()
@@ -86,16 +108,7 @@ fn write(posting: &Posting, options: &Options, ids: &[Option<FileId>]) -> Result
         let explain = options.has("--explain");
         let look = Look { columns: columns(), colour: Colour::of_output(to_file), explain };
         table::table(posting, &look).into_bytes()
-    };
-    let mut output = match options.has("--bytes") {
-        true => Output::open_bytes(name, ids, "-o OUT writes the board to a file")?,
-        false => Output::open(name, ids)?,
-    };
-    if to_file || ["--bytes", "--json", "--csv"].iter().any(|form| options.has(form)) {
-        posting.tally.missing().into_iter().for_each(|words| tell(&words));
     }
-    output.put(&bytes)?;
-    output.finish()
 }
 
 fn status(posting: &Posting, strict: bool) -> u8 {

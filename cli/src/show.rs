@@ -6,7 +6,7 @@ mod detail;
 pub mod facts;
 mod item;
 mod json;
-mod layout;
+pub mod layout;
 mod numbers;
 pub mod pairs;
 pub mod printer;

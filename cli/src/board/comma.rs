@@ -1,4 +1,5 @@
-//! A board as CSV: a line for each transfer, refusal or conflict. Fields that do not apply are empty.
+//! A board as CSV: a line for each transfer, refusal or conflict and, if something is missing, a last line that says what. Fields that
+//! do not apply are empty.
 
 use super::conflict::{foreign, CONFLICT};
 use super::difference;
@@ -15,16 +16,23 @@ const HEAD: &str = "job,revision,state,number,meaning,transfer,transfers,orbit,x
 const COLUMNS: usize = 15;
 
 pub fn lines(posting: &Posting) -> String {
-    HEAD.to_string() + &filled(&posting.board).map(|slot| rows(&slot, posting)).collect::<String>()
+    let slots = filled(&posting.board).map(|slot| rows(&slot, posting));
+    let none = String::new;
+    let missing =
+        posting.tally.missing().map(|words| row([none(), none()], "incomplete", vec![none(), words]));
+    HEAD.to_string() + &slots.chain(missing).collect::<String>()
+}
+
+/// Returns a line with a job and a revision, a state and the fields after it. The fields that are left are empty.
+fn row(of: [String; 2], state: &str, said: Vec<String>) -> String {
+    let mut fields = [&of[..], &[state.into()], &said].concat();
+    fields.resize(COLUMNS, String::new());
+    line(&fields)
 }
 
 fn rows(slot: &Filled, posting: &Posting) -> String {
-    let own = [slot.job.to_string(), slot.revision.to_string()];
-    let row = |state: &str, said: Vec<String>| {
-        let mut fields = [&own[..], &[state.into()], &said].concat();
-        fields.resize(COLUMNS, String::new());
-        line(&fields)
-    };
+    let row =
+        |state: &str, said| row([slot.job, slot.revision].map(|number| number.to_string()), state, said);
     match &slot.held {
         Held::Conflict => row("conflict", conflict(posting.origins.of(slot.job), posting)),
         Held::Outcome(Outcome::Refused(number)) => {

@@ -1,4 +1,4 @@
-//! A board as JSON: an object for each filled slot, on one line.
+//! A board as JSON: an object for each filled slot, on one line. If something is missing, the last object says what.
 
 use super::conflict::foreign;
 use super::difference::{first, Difference};
@@ -14,7 +14,9 @@ use crate::wire::{Entry, Outcome};
 type Fields = Vec<(&'static str, String)>;
 
 pub fn lines(posting: &Posting) -> String {
-    filled(&posting.board).map(|slot| object(fields(&slot, posting)) + "\n").collect()
+    let slots = filled(&posting.board).map(|slot| object(fields(&slot, posting)) + "\n");
+    let missing = posting.tally.missing().map(|words| object(incomplete(&words)) + "\n");
+    slots.chain(missing).collect()
 }
 
 fn fields(slot: &Filled, posting: &Posting) -> Fields {
@@ -24,6 +26,11 @@ fn fields(slot: &Filled, posting: &Posting) -> Fields {
         fields.extend(conflict(origin, &posting.names));
     }
     fields
+}
+
+/// Returns the fields of the last object. They say what is missing on the board.
+fn incomplete(words: &str) -> Fields {
+    vec![("state", string("incomplete")), ("meaning", string(words))]
 }
 
 /// Returns the state of a slot or a record, and what it says.

@@ -1,15 +1,15 @@
 //! Posts the records of inputs, prints a message for each record that the board refuses, and keeps what explains the board.
 
+use super::content::{empty, foreign};
 use super::names::{shown, Names};
 use super::origins::{Origins, Place};
 use super::tally::Tally;
-use crate::expected::{other, Content};
 use crate::proved::{post, TAKEN};
 use crate::stop::{tell, Stop};
 use crate::streams::Input;
-use crate::wire::slots::{BOARD, SLOTS};
-use crate::wire::{form, u32_at, Frames, ROOM};
-use std::io::{self, BufReader, Cursor, Read};
+use crate::wire::slots::SLOTS;
+use crate::wire::{form, u32_at, Frames};
+use std::io::BufReader;
 
 /// The numbers of a board's refusals, B0 to B3.
 pub const NO_BOARD: u8 = 0;
@@ -48,6 +48,7 @@ impl Posting {
             Err(Stop::Said(words)) => return self.unread(words, cut),
             Err(Stop::PipeClosed) => return self.unread(format!("cannot read {shown}"), cut),
         };
+        let is_standard_input = input.file.is_none();
         let (mut frames, mut refused) = (Frames::new(BufReader::new(input.bytes)), 0);
         let fault = loop {
             let record = match frames.next() {
@@ -66,7 +67,11 @@ impl Posting {
         if refused > TOLD {
             tell(&format!("{shown}: {} more records are refused", refused - TOLD));
         }
-        fault.into_iter().for_each(|words| self.unread(words, cut.clone()));
+        match fault {
+            Some(words) => self.unread(words, cut),
+            None if frames.number == 0 => tell(&empty(&shown, is_standard_input)),
+            None => {}
+        }
     }
 
     /// Prints why the input was not read to its end, and notes it in a few words.
@@ -90,31 +95,6 @@ impl Posting {
     }
 }
 
-/// Returns a sentence that says what an input holds, if it plainly does not hold records.
-fn foreign(input: &mut Input) -> Result<Option<&'static str>, Stop> {
-    if let Some(words) = other(input, Content::Records)? {
-        return Ok(Some(words));
-    }
-    Ok(is_board(beginning(input)).then_some("is a board, not records: '--board FILE' starts from a board"))
-}
-
-/// Returns the beginning of an input, one byte more than a board. It stays part of the input. If a read fails, the records
-/// before the fault are not lost: the next read fails too, or goes on at the same byte.
-fn beginning(input: &mut Input) -> Vec<u8> {
-    let mut bytes = Vec::new();
-    let _ = input.bytes.by_ref().take(BOARD as u64 + 1).read_to_end(&mut bytes);
-    let rest = std::mem::replace(&mut input.bytes, Box::new(io::empty()));
-    input.bytes = Box::new(Cursor::new(bytes.clone()).chain(rest));
-    bytes
-}
-
-/// Whether the bytes are a board that cannot be read as records. If all its slots are full, it can.
-fn is_board(mut bytes: Vec<u8>) -> bool {
-    bytes.len() == BOARD
-        && post(&mut bytes, &[]) != NO_BOARD
-        && bytes.chunks(ROOM).any(|slot| u32_at(slot, 0) as usize + 4 != ROOM)
-}
-
 /// Returns the position in a refused record of the field that is the reason, and the reason in words.
 fn why(number: u8, record: &[u8]) -> (usize, String) {
     match number {
@@ -123,7 +103,10 @@ fn why(number: u8, record: &[u8]) -> (usize, String) {
             Ok(()) => (0, "B1, malformed".into()),
         },
         NO_JOB => (6, "B2, job is 0: a board holds the outcomes of numbered jobs".into()),
-        NO_SLOT => (0, format!("B3, no free slot: the board holds {SLOTS} other jobs")),
+        NO_SLOT => {
+            let job = u32_at(record, 6);
+            (0, format!("B3, no free slot for job {job}: the board holds {SLOTS} other jobs"))
+        }
         _ => (0, format!("B{number}, the board is damaged")),
     }
 }

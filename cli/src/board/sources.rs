@@ -4,10 +4,10 @@
 use super::names::shown;
 use crate::stop::{tell, Stop};
 use crate::streams::{FileId, Input};
-use crate::words::counted;
-use std::fs::{self, File};
+use std::fs::{self, File, FileType};
 use std::io;
 use std::os::unix::ffi::OsStrExt;
+use std::os::unix::fs::FileTypeExt;
 use std::path::{Path, PathBuf};
 
 pub struct Source {
@@ -46,9 +46,32 @@ pub fn list(names: &[String]) -> Result<Vec<Source>, Stop> {
     Ok(sources)
 }
 
-/// Returns the files of a folder in the order of their names: no hidden files, no folders, no pipes and no devices.
+/// The most things in one folder that are named because they are not read. The rest are only counted.
+const NAMED: usize = 20;
+
+/// Returns the plain files of a folder. Names what else is in it, because it is not read.
 fn files_of(folder: &str) -> io::Result<Vec<PathBuf>> {
-    let (mut files, mut folders) = (Vec::new(), 0);
+    let (files, others) = content_of(folder)?;
+    if files.is_empty() {
+        tell(&format!("{}: this folder has no file to read", shown(folder)));
+    }
+    for (path, kind) in others.iter().take(NAMED) {
+        tell(&format!("{}: is not read, because it is a {kind}", shown(&path.to_string_lossy())));
+    }
+    if others.len() > NAMED {
+        let more = others.len() - NAMED;
+        let are = if more == 1 { "is" } else { "are" };
+        tell(&format!("{}: {more} more in this folder {are} not read", shown(folder)));
+    }
+    Ok(files)
+}
+
+/// Something in a folder that is not a plain file, and what it is.
+type Other = (PathBuf, &'static str);
+
+/// Returns the plain files of a folder and what else is in it, in the order of their names. Hidden ones are left out.
+fn content_of(folder: &str) -> io::Result<(Vec<PathBuf>, Vec<Other>)> {
+    let (mut files, mut others) = (Vec::new(), Vec::new());
     for entry in fs::read_dir(folder)? {
         let entry = entry?;
         if entry.file_name().as_bytes().starts_with(b".") {
@@ -56,20 +79,23 @@ fn files_of(folder: &str) -> io::Result<Vec<PathBuf>> {
         }
         // A link whose file is missing counts as a file, so that the check finds that it cannot be opened.
         match fs::metadata(entry.path()) {
-            Ok(about) if about.is_dir() => folders += 1,
-            Ok(about) if !about.is_file() => {}
+            Ok(about) if !about.is_file() => others.push((entry.path(), kind(about.file_type()))),
             _ => files.push(entry.path()),
         }
     }
     files.sort();
-    if files.is_empty() {
-        tell(&format!("{}: this folder has no file to read", shown(folder)));
+    others.sort();
+    Ok((files, others))
+}
+
+/// Returns what something in a folder is if it is not a plain file.
+fn kind(of: FileType) -> &'static str {
+    match of {
+        _ if of.is_dir() => "folder",
+        _ if of.is_fifo() => "pipe",
+        _ if of.is_socket() => "socket",
+        _ => "device",
     }
-    if folders > 0 {
-        let are = if folders == 1 { "is" } else { "are" };
-        tell(&format!("{}: {} in this folder {are} not read", shown(folder), counted(folders, "folder")));
-    }
-    Ok(files)
 }
 
 /// Opens a file to check that this is possible, and closes it unless it has to stay open.
@@ -98,3 +124,6 @@ impl Source {
         }
     }
 }
+
+#[cfg(test)]
+mod tests;

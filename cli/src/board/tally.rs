@@ -1,6 +1,7 @@
 //! What the board lacks: records that found no place, and inputs that were not read to their end.
 
 use super::posting::{NO_JOB, NO_SLOT};
+use crate::wire::slots::SLOTS;
 use crate::words::counted;
 
 /// The most inputs that are named in the line about what is missing. The rest are only counted.
@@ -41,11 +42,19 @@ impl Tally {
         }
     }
 
-    /// Returns the line that says what is missing on the board and why, or `None` if nothing is missing.
+    /// Returns the line that marks the board as incomplete, or `None` if nothing is missing.
+    pub fn incomplete(&self) -> Option<String> {
+        self.missing().map(|words| format!("INCOMPLETE: {words}"))
+    }
+
+    /// Returns what is missing on the board and why, or `None` if nothing is missing.
     pub fn missing(&self) -> Option<String> {
+        let full = format!(
+            "found no free slot (B3): a board has room for {SLOTS} jobs, so post the others to a second board"
+        );
         let mut parts = Vec::new();
         for (count, one, several) in [
-            (self.no_slot, "found no free slot (B3)", "found no free slot (B3)"),
+            (self.no_slot, &full[..], &full[..]),
             (self.malformed, "is malformed (B1)", "are malformed (B1)"),
             (self.no_job, "has job 0 (B2)", "have job 0 (B2)"),
         ] {
@@ -62,7 +71,7 @@ impl Tally {
                 counted(self.more_unread, "more input")
             ));
         }
-        (!parts.is_empty()).then(|| format!("INCOMPLETE: {}", parts.join("; ")))
+        (!parts.is_empty()).then(|| parts.join("; "))
     }
 }
 
@@ -72,12 +81,13 @@ mod tests {
 
     #[test]
     fn only_what_applies_is_said() {
-        assert_eq!(Tally { records: 9, ..Tally::default() }.missing(), None);
-        let said = |tally: Tally| tally.missing().expect("something is missing");
+        assert_eq!(Tally { records: 9, ..Tally::default() }.incomplete(), None);
+        let said = |tally: Tally| tally.incomplete().expect("something is missing");
         let unread = vec!["day could not be read to its end".to_string()];
         let all = Tally { records: 10_000, no_slot: 9936, malformed: 2, no_job: 1, unread, more_unread: 0 };
-        let words = "9936 of 10000 records found no free slot (B3); 2 are malformed (B1); 1 has job 0 (B2); \
-                     day could not be read to its end";
+        let words = "9936 of 10000 records found no free slot (B3): a board has room for 64 jobs, so post the others \
+                     to a second board; 2 are malformed (B1); 1 has job 0 (B2); day could not be read to its end";
+        assert_eq!(all.missing().as_deref(), Some(words));
         assert_eq!(said(all), format!("INCOMPLETE: {words}"));
         let one = Tally { records: 1, malformed: 1, ..Tally::default() };
         assert_eq!(said(one), "INCOMPLETE: 1 of 1 record is malformed (B1)");
@@ -89,7 +99,7 @@ mod tests {
     fn many_inputs_are_counted() {
         let mut tally = Tally::default();
         (1..=7).for_each(|i| tally.unread(format!("{i} is text")));
-        let words = "INCOMPLETE: 1 is text; 2 is text; 3 is text; 4 is text; 5 is text; \
+        let words = "1 is text; 2 is text; 3 is text; 4 is text; 5 is text; \
                      and 2 more inputs could not be read to the end";
         assert_eq!(tally.missing().as_deref(), Some(words));
     }

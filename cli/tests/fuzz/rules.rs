@@ -49,11 +49,11 @@ fn files(case: &Case, found: &Found, command: &str, after: &BTreeMap<String, Vec
     for name in after.keys().filter(|name| !before(name)) {
         let message = name.starts_with("to/") && name.ends_with(".opm") && case.has("--to");
         rule(message || (name == "out" && case.has("-o")), &format!("there is a file {name}"))?;
-        let none = found.status == Some(2) && ["ask", "solve", "plot", "opm"].contains(&command);
+        let none = found.status == Some(2) && ["ask", "solve", "plot", "board", "opm"].contains(&command);
         rule(!none, &format!("the status is 2, but the file {name} is written"))?;
     }
     let out = after.get("out").map(Vec::as_slice);
-    if found.status == Some(2) && command != "board" && before("out") {
+    if found.status == Some(2) && before("out") {
         rule(out == Some(OLD), "the status is 2, but the old output is changed")?;
     }
     if found.status == Some(0) && case.has("-o") {

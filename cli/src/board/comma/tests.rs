@@ -25,3 +25,12 @@ fn each_transfer_refusal_and_conflict_is_a_line() {
     assert_eq!(found, expected);
     assert!(!text.contains('\r'));
 }
+
+#[test]
+fn what_is_missing_is_the_last_row() {
+    let text = lines(&of_files(&[("a", [refusal(0, 9), refusal(1, 9)].concat()), ("b,c", vec![1])]));
+    let found: Vec<&str> = text.lines().collect();
+    assert!(found[1].starts_with("1,1,refused,9,"));
+    let words = "1 of 2 records has job 0 (B2); b,c could not be read to its end";
+    assert_eq!(found[2..], [format!(",,incomplete,,\"{words}\",,,,,,,,,,")]);
+}

@@ -31,3 +31,12 @@ fn values_that_json_lacks_are_strings() {
     assert!(text.contains(r#""field":"v1 x of transfer 1","values":["inf",1e300]"#), "{text}");
     assert!(text.contains(r#""transfers":null,"fault":"1 transfer, not the solver's: entry 1: "#), "{text}");
 }
+
+#[test]
+fn what_is_missing_is_the_last_object() {
+    let text = lines(&of_files(&[("a", [refusal(0, 9), refusal(1, 9)].concat()), ("\"b\"", vec![1])]));
+    let found: Vec<&str> = text.lines().collect();
+    assert!(found[0].starts_with(r#"{"job":1,"revision":1,"#));
+    let words = r#"1 of 2 records has job 0 (B2); \"b\" could not be read to its end"#;
+    assert_eq!(found[1..], [format!(r#"{{"state":"incomplete","meaning":"{words}"}}"#)]);
+}

@@ -1,4 +1,6 @@
 use super::*;
+use crate::wire::slots::BOARD;
+use std::io::{self, Cursor, Read};
 
 /// Returns the record of a refusal of revision 1.
 pub fn refusal(job: u8, number: u8) -> Vec<u8> {
@@ -44,7 +46,7 @@ fn each_refusal_has_its_place_and_its_reason() {
         (refusal(1, 15), 14, "B1, malformed: number is 15, not 1 to 14"),
         (refusal(0, 15), 14, "B1, malformed: number is 15, not 1 to 14"),
         (refusal(0, 1), 6, "B2, job is 0: a board holds the outcomes of numbered jobs"),
-        (refusal(65, 1), 0, "B3, no free slot: the board holds 64 other jobs"),
+        (refusal(65, 1), 0, "B3, no free slot for job 65: the board holds 64 other jobs"),
     ] {
         let before = board.clone();
         let number = post(&mut board, &record);
@@ -73,12 +75,12 @@ fn a_failing_read_loses_no_other_record() {
     let all = [refusal(1, 11), refusal(2, 12), refusal(3, 9), refusal(4, 9)].concat();
     assert!(posting.board == of_files(&[("all", all)]).board);
     let missing = posting.tally.missing();
-    assert_eq!(missing.as_deref(), Some("INCOMPLETE: b could not be read to its end"));
+    assert_eq!(missing.as_deref(), Some("b could not be read to its end"));
     let place = |job| posting.origins.of(job).map(|origin| origin.records[0].place);
     let at = |number, byte| Some(Place::Input { number, byte });
     assert_eq!([place(3), place(2), place(4)], [at(0, 0), at(1, 16), at(2, 0)]);
     let posting = posted(vec![0; BOARD], vec![("a", Stop::said("cannot open it")), ("b", good(4))]);
-    assert_eq!(posting.tally.missing().as_deref(), Some("INCOMPLETE: a could not be read to its end"));
+    assert_eq!(posting.tally.missing().as_deref(), Some("a could not be read to its end"));
     assert!(posting.origins.of(4).is_some());
 }
 
@@ -89,19 +91,16 @@ fn what_is_not_records_is_not_posted() {
     post(&mut board, &refusal(9, 11));
     let text = b"these are words".to_vec();
     let posting = of_files(&[("text", text), ("cut", cut), ("board", board), ("good", refusal(3, 11))]);
-    let words = "INCOMPLETE: text is text, not records; cut could not be read to its end; \
+    let words = "text is text, not records; cut could not be read to its end; \
                  board is a board, not records";
     assert_eq!(posting.tally.missing().as_deref(), Some(words));
     assert!(posting.board == of_files(&[("good", [refusal(1, 11), refusal(3, 11)].concat())]).board);
 }
 
+/// A board without records is not incomplete: it is what an empty day gives.
 #[test]
-fn a_board_is_told_from_records() {
-    let mut board = vec![0; BOARD];
-    assert!(is_board(board.clone()), "an empty board");
-    post(&mut board, &refusal(1, 11));
-    assert!(is_board(board.clone()));
-    assert!(!is_board(board[1..].to_vec()) && !is_board([&board[..], &[0]].concat()));
-    let full: Vec<u8> = (1..=64).flat_map(|job| answer(job, &[1.0; 8])).collect();
-    assert!(full.len() == BOARD && !is_board(full), "64 of the longest records are records");
+fn an_input_without_bytes_is_not_missing() {
+    let posting = of_files(&[("none", Vec::new()), ("good", refusal(3, 11)), ("again", Vec::new())]);
+    assert_eq!(posting.tally.missing(), None);
+    assert!(posting.board == of_files(&[("good", refusal(3, 11))]).board);
 }

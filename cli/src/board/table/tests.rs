@@ -16,37 +16,67 @@ fn a_row_for_each_transfer_and_refusal() {
     let posting = board();
     let text = table(&posting, &PLAIN);
     let lines: Vec<&str> = text.lines().collect();
-    assert_eq!(lines[1], "         1        1  1 of 2   ellipse    0.000000000000    1.000000    5.000000");
-    assert_eq!(lines[2], "                     2 of 2   ellipse    0.000000000000 123456.000000    5.000000");
-    assert_eq!(lines[3].len(), "         2        1  CONFLICT: ".len() + CONFLICT.len());
+    assert_eq!(lines[0], "       job  revision  transfer  orbit      x of chosen end    v1 km/s    v2 km/s");
+    assert_eq!(lines[1], "         1         1  1 of 2    ellipse     0.000000000000   1.000000   5.000000");
+    assert_eq!(
+        lines[2],
+        "                      2 of 2    ellipse     0.000000000000  123456.000000   5.000000"
+    );
+    assert_eq!(lines[3], format!("         2         1  CONFLICT: {CONFLICT}"));
     assert!(
         lines[5].ends_with("answers, byte 224: 1 transfer: ellipse, v1 1.00000e-9 km/s, v2 5.000000 km/s")
     );
     assert_eq!(lines[6].trim(), "they differ first at byte 32 of the record, v1 x of transfer 1: 1 and 1e-9");
     for number in 1..=14 {
         let words = format!("refused {number}: {}", refusal::short(number));
-        assert_eq!(lines[6 + number as usize], format!("{:>10}        1  {words}", 100 + number));
+        assert_eq!(lines[6 + number as usize], format!("{:>10}         1  {words}", 100 + number));
     }
     assert_eq!(lines[21], "16 of 64 slots filled: 1 answered, 14 refused, 1 in conflict");
     let missing = "INCOMPLETE: 1 of 18 records has job 0 (B2); cut could not be read to its end";
-    assert_eq!(lines[22..], [missing]);
+    assert_eq!(*lines.last().expect("a line"), missing);
 }
 
 #[test]
 fn lines_fit_the_width() {
     let posting = board();
-    for (columns, widest) in [(Some(80), 80), (Some(100), 100), (Some(1), 79), (None, 142)] {
+    for (columns, widest) in
+        [(Some(80), 80), (Some(100), 100), (Some(50), 50), (Some(1), 22 + NARROW), (None, 143)]
+    {
         for explain in [false, true] {
             let text = table(&posting, &Look { columns, explain, ..PLAIN });
             let wide: Vec<&str> = text.lines().filter(|line| line.len() > widest).collect();
-            // A speed of 123456 km/s is one digit too wide for its column.
+            // A speed of 123456 km/s is too wide for its column.
             assert!(wide.iter().all(|line| line.contains("123456.000000")), "{wide:?}");
             let words: Vec<&str> = text.split_whitespace().collect();
             let words = words.join(" ");
             assert!(words.contains(&refusal::short(12)) && words.contains("(B2); cut could not be read"));
+            assert!(words.contains("2 of 2 ellipse 0.000000000000 123456.000000 5.000000"), "{columns:?}");
             assert_eq!(words.contains(&refusal::words(11)), explain);
         }
     }
+}
+
+/// Each line of a transfer begins where its first line does.
+#[test]
+fn a_narrow_row_has_more_lines() {
+    let text = table(&of_files(&[("a", answer(1, &[1.0]))]), &Look { columns: Some(50), ..PLAIN });
+    let expected = [
+        "       job  revision  transfer  orbit",
+        "                      x of chosen end    v1 km/s",
+        "                        v2 km/s",
+        "         1         1  1 of 1    ellipse",
+        "                       0.000000000000   1.000000",
+        "                       5.000000",
+    ];
+    assert_eq!(text.lines().take(6).collect::<Vec<_>>(), expected);
+}
+
+#[test]
+fn the_largest_numbers_keep_apart() {
+    let mut largest = refusal(1, 11);
+    largest[6..14].fill(255);
+    let text = table(&of_files(&[("a", largest)]), &PLAIN);
+    assert!(text.contains("\n4294967295  4294967295  refused 11: "), "{text}");
 }
 
 #[test]
