@@ -91,9 +91,9 @@ impl Table {
         }
         let text = self.indented(&lines, view);
         let text = view.colour.paint(Mark::Refusal, &text);
-        // The names take the place of the first line's indent.
+        // The names take the place of the first line's indent. If they are longer, two blanks follow them.
         let head = self.layout.row(&Vec::from(names));
-        let head = format!("{:<1$}", head.trim_end(), self.layout.indent());
+        let head = format!("{:<1$}", format!("{}  ", head.trim_end()), self.layout.indent());
         text.replacen(&" ".repeat(self.layout.indent()), &head, 1)
     }
 

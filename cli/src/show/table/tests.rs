@@ -35,6 +35,14 @@ fn every_refusal_is_one_line_and_explained_if_asked() {
 }
 
 #[test]
+fn a_long_job_does_not_touch_its_refusal() {
+    let record = Record { job: u32::MAX, revision: u32::MAX, outcome: Outcome::Refused(8) };
+    let item = Item::new(&record, &Asked::Unknown, None);
+    let text = Table::new(Names::JobAndRevision, false, &view(None)).item(&item, &view(None));
+    assert!(text.starts_with("4294967295  4294967295  refused 8: "), "{text}");
+}
+
+#[test]
 fn lines_fit_the_columns() {
     for columns in [40, 60, 80, 100, 132] {
         for (detail, known) in [(false, true), (true, true), (false, false), (true, false)] {
