@@ -5,13 +5,12 @@ use crate::ask::{self, single};
 use crate::fields::{self, body_of};
 use crate::mistakes::Mistakes;
 use crate::options::Options;
-use crate::plot;
 use crate::show::pairs::Asked;
 use crate::show::printer::Printer;
 use crate::show::refused;
 use crate::show::table::Names;
 use crate::show::view::{self, Form, View};
-use crate::stop::Stop;
+use crate::stop::{tell, Stop};
 use crate::streams::Output;
 use crate::wire::{Outcome, Question, Record};
 use crate::words::{self, wrapped};
@@ -39,15 +38,29 @@ pub fn run(words: &[String]) -> Result<u8, Stop> {
     }
     let mut printer = Printer::new(view, Names::WayAndRevolutions, true);
     output.put(printer.head().as_bytes())?;
-    let records = questions.iter().map(|question| plot::record(&question.bytes()));
+    let records = questions.iter().map(|question| Record::of_question(&question.bytes()));
     let records = records.collect::<Result<Vec<Record>, Stop>>()?;
     let pairs: Vec<(Question, Record)> = questions.into_iter().zip(records).collect();
     for group in pairs.chunk_by(|one, next| table && alike(one, next)) {
         output.put(row(&mut printer, group).as_bytes())?;
     }
     output.put(printer.foot().as_bytes())?;
+    if options.value("--revolutions").is_some_and(|text| text.trim() == "all") && pairs.iter().any(is_last) {
+        match table {
+            true => output.put(format!("{MORE_REVOLUTIONS}\n").as_bytes())?,
+            false => tell(MORE_REVOLUTIONS),
+        }
+    }
     output.finish()?;
     Ok(0)
+}
+
+const MORE_REVOLUTIONS: &str =
+    "only 0 to 16 whole revolutions can be asked for; transfers with more are possible in this time";
+
+/// Reports whether a question has the most whole revolutions and an answer. Then more of them may be possible in its time.
+fn is_last((question, record): &(Question, Record)) -> bool {
+    question.revolutions == MOST_REVOLUTIONS && matches!(record.outcome, Outcome::Answered(_))
 }
 
 /// Reports whether two questions of one way were refused for the same reason, so that one line says it of both.
@@ -72,18 +85,23 @@ fn row(printer: &mut Printer, group: &[(Question, Record)]) -> String {
 /// Returns a question for each way and each number of whole revolutions, numbered by their jobs.
 fn questions(options: &Options) -> Result<Vec<Question>, Stop> {
     let mut mistakes = Mistakes::default();
-    single::missing(options, &FIELDS[..NEEDED], &mut mistakes);
+    mistakes.need(options, &FIELDS[..NEEDED]);
     mistakes.stop()?;
     let given = single::geometry(options, &mut mistakes);
     let way = options.value("--way").unwrap_or("short");
     let ways = match way.trim() {
         "both" => vec![false, true],
-        _ => vec![mistakes.take("--way", fields::way(way).map_err(|words| format!("{words}, nor both")))],
+        _ => vec![mistakes
+            .take("--way", fields::way(way).map_err(|words| format!("{words}; 'both' asks both ways")))],
     };
     let revolutions = options.value("--revolutions").unwrap_or(ask::DEFAULT_REVOLUTIONS);
     let revolutions = match revolutions.trim() {
         "all" => (0..=MOST_REVOLUTIONS).collect(),
-        _ => vec![mistakes.take("--revolutions", fields::revolutions(revolutions))],
+        _ => {
+            let read = fields::revolutions(revolutions);
+            vec![mistakes
+                .take("--revolutions", read.map_err(|words| format!("{words}; 'all' asks each of 0 to 16")))]
+        }
     };
     mistakes.stop()?;
     let pairs = ways.iter().flat_map(|way| revolutions.iter().map(move |revolutions| (*way, *revolutions)));

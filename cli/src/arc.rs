@@ -1,7 +1,8 @@
 //! The arc of a transfer from r1 to r2, as two-body motion gives it from r1 and v1. This is for display: it is tested, not proved.
 
-use crate::orbit::{kind, size};
-use crate::propagation::{dot, inverse_axis};
+use crate::orbit::kind;
+use crate::propagation::inverse_axis;
+use crate::vectors::{cross, dot, size};
 use crate::wire::{Entry, Question};
 use std::f64::consts::TAU;
 
@@ -94,10 +95,6 @@ fn turn(sine: f64, cosine: f64) -> f64 {
     } else {
         0.0
     }
-}
-
-fn cross(a: [f64; 3], b: [f64; 3]) -> [f64; 3] {
-    [a[1] * b[2] - a[2] * b[1], a[2] * b[0] - a[0] * b[2], a[0] * b[1] - a[1] * b[0]]
 }
 
 #[cfg(test)]

@@ -26,7 +26,7 @@ pub fn run(words: &[String]) -> Result<u8, Stop> {
     }
     options.apart("--csv", &single::FIELDS)?;
     match options.value("--csv") {
-        None if options.has("--ignore-extra") => Stop::said("--ignore-extra goes with --csv alone"),
+        None if options.has("--ignore-extra") => Stop::said("--ignore-extra can be used only with --csv"),
         None => {
             let question = single::question(&options)?;
             let mut output = Output::open_bytes(options.value("-o"), &[], HINT)?;

@@ -1,8 +1,9 @@
 //! Whether a record can be the solver's record of a question. The job and the revision do not tell: a question may have been changed
-//! since. The proved times do: an entry's bracket has times on different sides of the time asked for, and with number 11 all stations
-//! are on one side.
+//! since. The proved times show most changes: an entry's bracket has times on different sides of the time asked for, and with number 11
+//! all stations are on one side. The velocities show a change that keeps the times, such as positions that are exchanged or turned.
 
 use crate::proved;
+use crate::vectors::{cross, size};
 use crate::wire::{Entry, Outcome, Question};
 
 /// Returns why the outcome cannot be that of the question, or `None` if no reason was found. The question is well-formed.
@@ -10,25 +11,40 @@ pub fn fault(question: &Question, outcome: &Outcome) -> Option<String> {
     let slot = question.bytes();
     match (proved::station_count(&slot), outcome) {
         (0, Outcome::Answered(_) | Outcome::Refused(11..=14)) => {
-            Some("the question is refused before anything is searched, and the record says otherwise".into())
+            Some("the question is refused before the search, but the record is that of a search".into())
         }
         // Number 7 depends on the buffer of the program that asked the solver.
         (0, Outcome::Refused(_)) | (_, Outcome::Refused(7)) => None,
-        (_, Outcome::Refused(number @ ..=10)) => {
-            Some(format!("the record is refused with {number}, and the question has no such fault"))
-        }
+        (_, Outcome::Refused(number @ ..=10)) => Some(format!(
+            "the record is refusal {number}, but the question passes the checks before the search"
+        )),
         (count, Outcome::Refused(11)) => stations_differ(&slot, count)?
-            .then(|| "the record says that nothing was found, and the search has a transfer".into()),
+            .then(|| "the record says that nothing was found, but the search finds a transfer".into()),
         (_, Outcome::Refused(_)) => None,
         (_, Outcome::Answered(entries)) => {
             let wrong = |entry: &Entry| {
                 let [low, high] = [entry.low, entry.low + entry.width()].map(|k| is_below(&slot, k));
                 low.is_none() || high.is_none() || low == high
             };
-            let at = entries.iter().position(wrong)?;
-            Some(format!("transfer {} of the record does not take the time asked for", at + 1))
+            if let Some(at) = entries.iter().position(wrong) {
+                return Some(format!("transfer {} of the record does not take the time asked for", at + 1));
+            }
+            let at = entries.iter().position(|entry| !fits(question, entry))?;
+            Some(format!("the velocities of transfer {} of the record do not fit the positions", at + 1))
         }
     }
+}
+
+/// How far the angular momenta at both ends of a transfer may differ, as a part of distance times speed. They are equal but for
+/// rounding, which is below 2^-20 even if the positions are nearly on one line.
+const ROUNDING: f64 = 1e-5;
+
+/// Reports whether the angular momentum is the same at both ends, in size and direction, as it is on an orbit through r1 and r2.
+fn fits(question: &Question, entry: &Entry) -> bool {
+    let [first, second] = [cross(question.r1, entry.v1), cross(question.r2, entry.v2)];
+    let scale = size(question.r1) * size(entry.v1) + size(question.r2) * size(entry.v2);
+    let difference = size([0, 1, 2].map(|i| first[i] - second[i]));
+    !scale.is_finite() || difference <= ROUNDING * scale
 }
 
 /// Reports whether stations on different sides of the time asked for were found. It looks at the first and the last station, and then
@@ -61,12 +77,13 @@ fn is_below(slot: &[u8], k: i64) -> Option<bool> {
 #[cfg(test)]
 mod tests {
     use super::*;
-    use crate::plot::record;
-    use crate::wire::SLOT;
+    use crate::wire::{Record, SLOT};
 
     fn samples() -> Vec<(Question, Outcome)> {
         let slots = include_bytes!("../../samples/questions").chunks(SLOT);
-        let pair = |slot| (Question::read(slot).expect("one"), record(slot).ok().expect("a record").outcome);
+        let pair = |slot| {
+            (Question::read(slot).expect("one"), Record::of_question(slot).ok().expect("a record").outcome)
+        };
         slots.map(pair).collect()
     }
 
@@ -95,6 +112,21 @@ mod tests {
         {
             let changed = Question { time: question.time * 1.000_001, ..question.clone() };
             assert!(fault(&changed, outcome).is_some(), "job {}", question.job);
+        }
+    }
+
+    /// The way back, a mirrored target and turned axes keep the times.
+    #[test]
+    fn other_positions_with_the_same_times_are_found() {
+        for (question, outcome) in
+            samples().iter().filter(|(_, outcome)| matches!(outcome, Outcome::Answered(_)))
+        {
+            let Question { r1, r2, .. } = *question;
+            let turned = |[x, y, z]: [f64; 3]| [y, z, x];
+            for (r1, r2) in [(r2, r1), (r1, r2.map(|part| -part)), (turned(r1), turned(r2))] {
+                let changed = Question { r1, r2, ..question.clone() };
+                assert!(fault(&changed, outcome).is_some(), "job {}", question.job);
+            }
         }
     }
 

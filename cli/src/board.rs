@@ -19,8 +19,7 @@ use crate::stop::{tell, Stop};
 use crate::streams::{FileId, Input, Output};
 use crate::terminal::{columns, Colour};
 use crate::wire::slots::{filled, Held, BOARD};
-use crate::words::counted;
-use names::shown;
+use crate::words::{counted, printable};
 use posting::Posting;
 use std::io::Read;
 use table::Look;
@@ -81,8 +80,11 @@ fn write(posting: &Posting, options: &Options, ids: &[Option<FileId>]) -> Result
     let incomplete = posting.tally.incomplete();
     if let (Some(name), Some(words)) = (name, &incomplete) {
         tell(words);
-        tell(&format!("{} is not written, because the board is incomplete", shown(name)));
+        tell(&format!("{} is not written, because the board is incomplete", printable(name)));
         return Ok(());
+    }
+    if let (Some(name), true) = (name, posting.tally.is_empty()) {
+        return Stop::said(format!("no record came, so {} is not written", printable(name)));
     }
     let bytes = form(posting, options, name.is_some());
     let mut output = match options.has("--bytes") {

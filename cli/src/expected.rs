@@ -5,7 +5,7 @@ use crate::proved::post;
 use crate::stop::Stop;
 use crate::streams::Input;
 use crate::wire::slots::BOARD;
-use crate::wire::{form, u16_at, u32_at, Question, SLOT};
+use crate::wire::{form, u16_at, u32_at, Question, ROOM, SLOT};
 
 #[derive(Clone, Copy, PartialEq)]
 pub enum Content {
@@ -37,9 +37,15 @@ fn is_board(input: &mut Input) -> Result<bool, Stop> {
     if input.file.as_ref().is_none_or(|file| !file.is_file() || file.len() != BOARD as u64) {
         return Ok(false);
     }
+    Ok(is_board_alone(&input.first(BOARD)?))
+}
+
+/// Reports whether bytes are a board and cannot be read as records too. A board whose slots are all full can.
+pub fn is_board_alone(bytes: &[u8]) -> bool {
     // Posting an empty record changes no board, and its result is the number 0 exactly if the bytes are not a board.
-    let mut bytes = input.first(BOARD)?;
-    Ok(post(&mut bytes, &[]) != 0)
+    bytes.len() == BOARD
+        && post(&mut bytes.to_vec(), &[]) != 0
+        && bytes.chunks(ROOM).any(|slot| u32_at(slot, 0) as usize + 4 != ROOM)
 }
 
 /// Returns a sentence that says what an input holds, if its beginning shows that it is not what is wanted.

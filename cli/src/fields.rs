@@ -1,6 +1,7 @@
 //! Reads the fields of a question, and of a request for an orbit message, from text. These functions refuse
 //! only what a field cannot hold. The proved libraries check the rest.
 
+use crate::stop::Stop;
 use crate::words::{quoted, shortened};
 
 mod bodies;
@@ -105,12 +106,24 @@ pub fn time(text: &str) -> Result<f64, String> {
     }
 }
 
+/// Reads the option `--radius`, the radius of a body in km.
+pub fn radius(text: &str) -> Result<f64, Stop> {
+    match real(text) {
+        Ok(radius) if radius > 0.0 => Ok(radius),
+        Ok(_) => Stop::said(format!("--radius: {} is not above 0", shortened(text.trim()))),
+        Err(words) => Stop::said(format!("--radius: {words}")),
+    }
+}
+
 /// Reads three numbers separated by commas.
 pub fn vector(text: &str) -> Result<[f64; 3], String> {
     let parts: Vec<&str> = text.split(',').collect();
     match parts[..] {
         [x, y, z] => Ok([real(x)?, real(y)?, real(z)?]),
-        _ => Err(format!("has {} components, not 3", parts.len())),
+        _ => {
+            let s = if parts.len() == 1 { "" } else { "s" };
+            Err(format!("has {} component{s}, not 3: write x,y,z with commas and no blanks", parts.len()))
+        }
     }
 }
 

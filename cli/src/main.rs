@@ -1,5 +1,6 @@
 //! The command for people around the proved solver, the proved board and the proved orbit messages. It does
-//! not compute transfers, change boards or write orbit messages itself: the functions of `proved` do that.
+//! not compute transfers, change boards or write orbit messages itself: the functions of `proved` do that. What it
+//! computes for display is tested, not proved.
 #![deny(unsafe_code)]
 
 mod answer;
@@ -31,6 +32,7 @@ mod stop;
 mod streams;
 #[allow(unsafe_code)]
 mod terminal;
+mod vectors;
 mod version;
 mod wire;
 mod words;
@@ -71,7 +73,7 @@ fn words() -> Result<Vec<String>, Stop> {
 
 fn run(words: &[String]) -> Result<u8, Stop> {
     let Some((first, rest)) = words.split_first() else {
-        return Stop::said("which command? 'lambert-cli --help' lists them");
+        return Stop::said("no command is given; 'lambert-cli --help' lists the commands");
     };
     if first == "--help" || first == "-h" || (first == "help" && rest.is_empty()) {
         return say(help::WHOLE);
@@ -84,7 +86,9 @@ fn run(words: &[String]) -> Result<u8, Stop> {
         let meant = similar::similar(first, known).map(|name| format!("did you mean {name}? "));
         let first = words::shortened(first);
         let meant = meant.unwrap_or_default();
-        return Stop::said(format!("unknown command {first}; {meant}'lambert-cli --help' lists them"));
+        return Stop::said(format!(
+            "unknown command {first}; {meant}'lambert-cli --help' lists the commands"
+        ));
     };
     if rest.iter().take_while(|word| *word != "--").any(|word| word == "--help" || word == "-h") {
         return say(help);

@@ -1,5 +1,6 @@
 //! The mistakes in what a command was given. They are collected, so that one run prints them all.
 
+use crate::options::Options;
 use crate::stop::Stop;
 use crate::words::counted;
 use std::collections::HashSet;
@@ -31,6 +32,13 @@ impl Mistakes {
             self.push(format!("{place}: {reason}"));
             T::default()
         })
+    }
+
+    /// Records a mistake for each of these options that is not given.
+    pub fn need(&mut self, options: &Options, names: &[&str]) {
+        for name in names.iter().filter(|name| !options.has(name)) {
+            self.push(format!("{name}: is missing; --help shows its form"));
+        }
     }
 
     pub fn push(&mut self, mistake: String) {

@@ -13,7 +13,6 @@ mod request;
 mod sources;
 mod texts;
 
-use crate::ask::single::missing;
 use crate::fields;
 use crate::mistakes::Mistakes;
 use crate::options::Options;
@@ -24,24 +23,24 @@ use sources::Sources;
 use texts::Text;
 
 const CHOICE: [&str; 3] = ["--job", "--revision", "--entry"];
-const FILES: [&str; 4] = ["--questions", "--list", "--to", "-o"];
+const OTHERS: [&str; 5] = ["--questions", "--list", "--to", "--radius", "-o"];
 
 pub fn run(words: &[String]) -> Result<u8, Stop> {
-    let valued = [&texts::OPTIONS[..], &CHOICE, &FILES].concat();
+    let valued = [&texts::OPTIONS[..], &CHOICE, &OTHERS].concat();
     let options = Options::read(words, &["--read", "--json", "--ignore-extra"], &valued)?;
     if options.has("--read") {
         options.apart("--read", &valued)?;
         return reading::run(&options);
     }
     if options.has("--json") {
-        return Stop::said("--json goes with --read alone");
+        return Stop::said("--json can be used only with --read");
     }
     if options.has("--list") {
         options.apart("--list", &[&CHOICE[..], &["-o"]].concat())?;
         return listed(&options);
     }
     if let Some(option) = ["--to", "--ignore-extra"].iter().find(|option| options.has(option)) {
-        return Stop::said(format!("{option} goes with --list alone"));
+        return Stop::said(format!("{option} can be used only with --list"));
     }
     single(&options)
 }
@@ -50,12 +49,15 @@ pub fn run(words: &[String]) -> Result<u8, Stop> {
 fn single(options: &Options) -> Result<u8, Stop> {
     let given = texts::given(options)?;
     let mut mistakes = Mistakes::default();
-    missing(options, &["--questions"], &mut mistakes);
-    missing(options, &texts::OPTIONS[1..], &mut mistakes);
+    mistakes.need(options, &["--questions"]);
+    mistakes.need(options, &texts::OPTIONS[1..]);
     let request = request(options, given, &mut mistakes);
     mistakes.stop()?;
     let mut inputs = sources::open(options)?;
-    match message::make(&request, &Sources::read(&mut inputs, std::slice::from_ref(&request))?) {
+    match message::make(
+        &request,
+        &Sources::read(&mut inputs, std::slice::from_ref(&request), radius(options)?)?,
+    ) {
         Err(words) => {
             mistakes.add(words);
             mistakes.stop()?;
@@ -64,7 +66,7 @@ fn single(options: &Options) -> Result<u8, Stop> {
             let mut output = Output::open(options.value("-o"), &inputs.each_ref().map(Input::id))?;
             output.put(&message.bytes)?;
             output.finish()?;
-            message.warning.iter().for_each(|words| warn(words));
+            message.warnings.iter().for_each(|words| warn(words));
         }
     }
     Ok(0)
@@ -88,21 +90,21 @@ fn request(options: &Options, given: [Option<Text>; 8], mistakes: &mut Mistakes)
 /// Writes the orbit messages of a list. It makes all of them before it writes the first.
 fn listed(options: &Options) -> Result<u8, Stop> {
     let mut mistakes = Mistakes::many();
-    missing(options, &["--questions", "--to"], &mut mistakes);
+    mistakes.need(options, &["--questions", "--to"]);
     mistakes.stop()?;
     let folder = options.value("--to").unwrap_or_default();
     let mut inputs = sources::open(options)?;
     let mut list = Input::open(options.value("--list"))?;
     let ignore_extra = options.has("--ignore-extra");
     let requests = list::requests(&mut list, ignore_extra, &texts::given(options)?, &mut mistakes)?;
-    let sources = Sources::read(&mut inputs, &requests)?;
+    let sources = Sources::read(&mut inputs, &requests, radius(options)?)?;
     let mut files = folder::Files::new();
     let mut warnings = Vec::new();
     for request in &requests {
         match message::make(request, &sources) {
             Err(words) => mistakes.add(words),
             Ok(message) => {
-                warnings.extend(message.warning.clone());
+                warnings.extend(message.warnings.clone());
                 folder::add(&mut files, folder, &request.place, message, &mut mistakes);
             }
         }
@@ -112,6 +114,10 @@ fn listed(options: &Options) -> Result<u8, Stop> {
     folder::write(folder, &files, present)?;
     warnings.iter().for_each(|words| warn(words));
     Ok(0)
+}
+
+fn radius(options: &Options) -> Result<Option<f64>, Stop> {
+    options.value("--radius").map(fields::radius).transpose()
 }
 
 /// Prints what an orbit message does not say.

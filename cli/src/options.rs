@@ -65,16 +65,17 @@ impl Options {
         match &self.files[..] {
             [] => Ok(None),
             [name] => Ok(Some(name)),
-            [_, second, ..] => {
-                Stop::said(format!("one file at most, but {} is a second one", shortened(second)))
-            }
+            [_, second, ..] => Stop::said(format!(
+                "this command takes at most one file, but {} is a second one",
+                shortened(second)
+            )),
         }
     }
 
     /// Fails if an option in `others` is given, since none of them goes together with `option`.
     pub fn apart(&self, option: &str, others: &[&str]) -> Result<(), Stop> {
         match others.iter().find(|other| self.has(option) && self.has(other)) {
-            Some(other) => Stop::said(format!("{other} and {option} do not go together")),
+            Some(other) => Stop::said(format!("{other} and {option} cannot be used together")),
             None => Ok(()),
         }
     }
@@ -118,7 +119,9 @@ mod tests {
         let options = read(&["--strict", "--jobs", "2"]).expect("good words");
         assert!(options.apart("--strict", &["-o"]).is_ok() && options.apart("-o", &["--jobs"]).is_ok());
         let told = options.apart("--strict", &["-o", "--jobs"]);
-        assert!(matches!(told, Err(Stop::Said(words)) if words == "--jobs and --strict do not go together"));
+        assert!(
+            matches!(told, Err(Stop::Said(words)) if words == "--jobs and --strict cannot be used together")
+        );
     }
 
     #[test]

@@ -1,4 +1,4 @@
-//! What follows from an entry without orbital mathematics: x of an end, the kind of orbit, the size of a velocity.
+//! What follows from an entry without orbital mathematics: x of an end, the kind of orbit.
 
 use crate::wire::Entry;
 
@@ -27,11 +27,6 @@ pub fn end(entry: &Entry) -> &'static str {
     }
 }
 
-/// Returns the size of a velocity, for display. It is not part of the record.
-pub fn size([x, y, z]: [f64; 3]) -> f64 {
-    x.hypot(y).hypot(z)
-}
-
 #[cfg(test)]
 mod tests {
     use super::*;
@@ -51,6 +46,5 @@ mod tests {
     #[test]
     fn x_is_exact() {
         assert_eq!((x_of(ONE), x_of(-ONE / 2), x_of(1)), (1.0, -0.5, 2f64.powi(-32)));
-        assert_eq!(size([2.0, -3.0, 6.0]), 7.0);
     }
 }

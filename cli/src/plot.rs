@@ -16,12 +16,11 @@ mod trace;
 mod transfer;
 
 use crate::expected;
+use crate::fields::radius;
 use crate::options::Options;
-use crate::proved::record_of;
-use crate::show::view::radius;
 use crate::stop::Stop;
 use crate::streams::write_text;
-use crate::wire::{Record, Records};
+use crate::wire::Record;
 use choice::Choice;
 use curve::Curve;
 
@@ -33,17 +32,9 @@ pub fn run(words: &[String]) -> Result<u8, Stop> {
     let mut input = expected::questions(options.file()?)?;
     let question = choice.question(&mut input)?;
     let slot = question.bytes();
-    let record = record(&slot)?;
+    let record = Record::of_question(&slot)?;
     let curve = Curve::of(&slot, &record.outcome);
     let picture = page::page(&question, &record.outcome, curve.as_ref(), radius);
     write_text(options.value("-o"), &[input.id()], &picture)?;
     Ok(0)
-}
-
-/// Returns the solver's record of a question.
-pub fn record(slot: &[u8]) -> Result<Record, Stop> {
-    match Records::new(&record_of(slot)[..]).next() {
-        Ok(Ok(Some(record))) => Ok(record),
-        _ => Stop::said("the solver's record cannot be read"),
-    }
 }

@@ -3,7 +3,7 @@
 
 mod universal;
 
-use crate::orbit::size;
+use crate::vectors::{dot, size};
 use crate::wire::{Entry, Question};
 use universal::universal;
 
@@ -106,10 +106,6 @@ fn square([x, y, z]: [f64; 3]) -> (f64, f64) {
         let lost = (sum - (total - added)) + (square - added);
         (total, rest + lost + component.mul_add(component, -square))
     })
-}
-
-pub fn dot(a: [f64; 3], b: [f64; 3]) -> f64 {
-    a[0] * b[0] + a[1] * b[1] + a[2] * b[2]
 }
 
 #[cfg(test)]

@@ -1,5 +1,5 @@
 //! Safe functions around the C interfaces of the proved solver, the proved board and the proved orbit messages.
-//! This is the only unsafe code of the program.
+//! The other unsafe calls of the program are one in terminal.rs and one in standard.rs.
 //! SAFETY of each call: a slice is passed as a pointer and its length. The slices live until the call returns and do not overlap.
 //! The function keeps none of them, and it is proved to end for every content.
 

@@ -57,31 +57,31 @@ static MEANINGS: [Meaning; 14] = [
     Meaning {
         gist: "a position is out of range",
         row: "a position component is not finite, or exceeds 2^40 km in size",
-        advice: "correct the question",
+        advice: "give positions in km that are at most 2^40 (about 1.1e12) in size",
     },
     // 3
     Meaning {
         gist: "a distance from the centre is out of range",
         row: "a distance from the centre is below 1 km or above 2^40 km",
-        advice: "correct the question",
+        advice: "give positions from 1 km to 2^40 km (about 1.1e12) from the centre",
     },
     // 4
     Meaning {
         gist: "mu is out of range",
         row: "the gravitational parameter is not finite, below 1 or above 2^60",
-        advice: "correct the question",
+        advice: "give mu in km^3/s^2, from 1 to 2^60 (about 1.2e18)",
     },
     // 5
     Meaning {
         gist: "the time is out of range",
         row: "the time is not finite, below 1 s or above 2^40 s",
-        advice: "correct the question",
+        advice: "give a time from 1 s to 2^40 s (about 35,000 years)",
     },
     // 6
     Meaning {
         gist: "more than 16 whole revolutions",
         row: "more than 16 whole revolutions were asked for",
-        advice: "correct the question",
+        advice: "ask for at most 16 whole revolutions: more cannot be asked for",
     },
     // 7
     Meaning {

@@ -35,7 +35,8 @@ pub fn run(words: &[String]) -> Result<u8, Stop> {
     if questions.is_none() && options.has("--radius") {
         return Stop::said("--radius needs the questions: --questions FILE");
     }
-    let input = expected::records(file)?;
+    let mut input = expected::records(file)?;
+    input.not_empty_for(options.value("-o"))?;
     let (mut pairs, asked) = Pairs::open(questions)?;
     let output = Output::open(options.value("-o"), &[input.id(), asked])?;
     show(input, &mut pairs, Printer::new(view, Names::JobAndRevision, questions.is_some()), output)?;

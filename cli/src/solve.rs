@@ -17,7 +17,8 @@ const HINT: &str = "name a file with -o, or pass them on to 'lambert-cli show'";
 pub fn run(words: &[String]) -> Result<u8, Stop> {
     let options = Options::read(words, &["--strict"], &["--jobs", "-o"])?;
     let jobs = jobs(options.value("--jobs"))?;
-    let input = expected::questions(options.file()?)?;
+    let mut input = expected::questions(options.file()?)?;
+    input.not_empty_for(options.value("-o"))?;
     let mut output = Output::open_bytes(options.value("-o"), &[input.id()], HINT)?;
     let whole = input.file.as_ref().filter(|file| file.is_file());
     let mut progress = Progress::new(whole.map(|file| file.len().div_ceil(SLOT as u64)));

@@ -36,7 +36,7 @@ impl Input {
                 }
                 if io::stdin().is_terminal() {
                     tell(
-                        "waiting for standard input, which is a terminal; end it with Ctrl-D, or name a file",
+                        "waiting for standard input, which is a terminal: end the input with Ctrl-D, or name a file",
                     );
                 }
                 Ok(Input { name: "standard input".into(), bytes: Box::new(io::stdin()), file: None })
@@ -52,6 +52,19 @@ impl Input {
 
     pub fn id(&self) -> Option<FileId> {
         self.file.as_ref().map(FileId::of)
+    }
+
+    /// Fails if the input has no bytes and the output is a file: an empty input often means that the command before failed, and the file
+    /// may be a good one.
+    pub fn not_empty_for(&mut self, output: Option<&str>) -> Result<(), Stop> {
+        match output.filter(|name| *name != "-") {
+            Some(name) if self.first(1)?.is_empty() => Stop::said(format!(
+                "{} is empty: did the command before it fail? {} is not written",
+                self.name,
+                printable(name)
+            )),
+            _ => Ok(()),
+        }
     }
 
     /// Returns the first bytes of the input, at most `most`. They stay part of the input. If the input has fewer, its end was read,
@@ -89,10 +102,14 @@ impl Output {
         if name.is_empty() {
             return Stop::said("the name of the file to write is empty");
         }
+        if name.starts_with('-') {
+            let name = printable(name);
+            return Stop::said(format!("{name} looks like an option: write ./{name} if it is a file"));
+        }
         let present = std::fs::metadata(name).ok();
         let id = present.as_ref().filter(|file| file.is_file()).map(FileId::of);
         if id.is_some() && inputs.contains(&id) {
-            return Stop::said(format!("{name} is the input too, and would be overwritten"));
+            return Stop::said(format!("{name} is also an input, and would be overwritten"));
         }
         let failed = |e| Stop::writing(name, &e);
         let (file, beside) = match present {

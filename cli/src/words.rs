@@ -37,7 +37,8 @@ pub fn component(part: f64, size: f64) -> String {
 
 /// Returns a time in seconds as a number in the unit that suits it: s, min, h or d.
 pub fn duration(seconds: f64) -> String {
-    let (size, unit) = match seconds {
+    let (size, unit) = match seconds.abs() {
+        s if s < 0.01 => return format!("{} s", number(seconds)),
         s if s < 120.0 => (1.0, "s"),
         s if s < 7_200.0 => (60.0, "min"),
         s if s < 172_800.0 => (3_600.0, "h"),
@@ -56,7 +57,7 @@ pub fn printable(text: &str) -> String {
 /// The most characters of a text from outside that a message repeats.
 const MOST: usize = 60;
 
-/// Returns a text from outside for a message. If it is long, only its beginning is repeated, and its length is said.
+/// Returns a text from outside for a message. If it is long, only its beginning is repeated, with its length.
 pub fn shortened(text: &str) -> String {
     let count = text.chars().count();
     let start = printable(&text.chars().take(MOST).collect::<String>());

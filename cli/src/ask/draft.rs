@@ -15,7 +15,7 @@ use std::os::unix::fs::FileExt;
 const LINE: usize = 8;
 const ITEM: usize = LINE + SLOT;
 
-/// The most questions whose job and revision are in memory at a time.
+/// About how many questions have their job and revision in memory at a time.
 const SHARE: u64 = 1 << 15;
 
 pub struct Draft {
@@ -109,6 +109,6 @@ fn failed(e: io::Error) -> Stop {
     let folder = std::env::temp_dir();
     let folder = printable(&folder.to_string_lossy());
     Stop::Said(format!(
-        "cannot keep the questions in a temporary file in {folder}: {e}; TMPDIR names another folder"
+        "cannot keep the questions in a temporary file in {folder}: {e}; to use another folder, set TMPDIR"
     ))
 }

@@ -14,7 +14,7 @@ const NEEDED: usize = 6;
 
 pub fn question(options: &Options) -> Result<Question, Stop> {
     let mut mistakes = Mistakes::default();
-    missing(options, &FIELDS[..NEEDED], &mut mistakes);
+    mistakes.need(options, &FIELDS[..NEEDED]);
     mistakes.stop()?;
     let value = |name: &str, usual: &str| options.value(name).unwrap_or(usual).to_string();
     let question = Question {
@@ -28,13 +28,6 @@ pub fn question(options: &Options) -> Result<Question, Stop> {
     mistakes.stop()?;
     say_mu(value("--mu", "").trim(), question.mu);
     Ok(question)
-}
-
-/// Records a mistake for each of these options that is not given.
-pub fn missing(options: &Options, names: &[&str], mistakes: &mut Mistakes) {
-    for name in names.iter().filter(|name| !options.has(name)) {
-        mistakes.push(format!("{name}: is missing"));
-    }
 }
 
 /// Returns a question with the positions, mu and the time of the options, as job 1, revision 1, short way.

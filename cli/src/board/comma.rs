@@ -1,13 +1,14 @@
 //! A board as CSV: a line for each transfer, refusal or conflict and, if something is missing, a last line that says what. Fields that
 //! do not apply are empty.
 
-use super::conflict::{foreign, CONFLICT};
+use super::conflict::{impossible, CONFLICT};
 use super::difference;
 use super::origins::Origin;
 use super::posting::Posting;
 use crate::csv::line;
-use crate::orbit::{kind, size, x_of};
+use crate::orbit::{kind, x_of};
 use crate::refusal;
+use crate::vectors::size;
 use crate::wire::slots::{filled, Filled, Held};
 use crate::wire::{Entry, Outcome};
 
@@ -45,7 +46,7 @@ fn rows(slot: &Filled, posting: &Posting) -> String {
         }
         Held::Foreign(entries, words) => {
             let none = String::new;
-            row("answered", vec![none(), foreign(*entries, words), none(), entries.to_string()])
+            row("answered", vec![none(), impossible(*entries, words), none(), entries.to_string()])
         }
     }
 }

@@ -1,14 +1,15 @@
 //! Says which records are in conflict, where they came from, what they say and where they differ first.
 
 use super::difference;
-use super::names::{shown, Names};
+use super::names::Names;
 use super::origins::Origin;
-use crate::orbit::{kind, size};
+use crate::orbit::kind;
 use crate::refusal;
+use crate::vectors::size;
 use crate::wire::slots::{held, Held};
 use crate::wire::{Entry, Outcome};
-use crate::words::component;
 use crate::words::counted;
+use crate::words::{component, printable};
 
 pub const CONFLICT: &str = "different records came for this revision; only a higher revision clears it";
 
@@ -17,7 +18,7 @@ pub fn sentences(origin: &Origin, names: &Names) -> Vec<String> {
     let mut said = Vec::new();
     if let Some(slot) = origin.conflict_in {
         let why = "which records caused it is not known, because a board does not keep them";
-        said.push(format!("{}, slot {slot}: in conflict already; {why}", shown(&names.stored)));
+        said.push(format!("{}, slot {slot}: in conflict already; {why}", printable(&names.stored)));
     }
     let records = origin.records.iter();
     said.extend(records.map(|kept| format!("{}: {}", names.place(kept.place), phrase(&held(&kept.bytes)))));
@@ -40,7 +41,7 @@ fn phrase(held: &Held) -> String {
             let transfers: Vec<String> = entries.iter().map(transfer).collect();
             format!("{}: {}", counted(entries.len() as u64, "transfer"), transfers.join("; "))
         }
-        Held::Foreign(entries, words) => foreign(*entries, words),
+        Held::Foreign(entries, words) => impossible(*entries, words),
     }
 }
 
@@ -49,9 +50,9 @@ fn transfer(entry: &Entry) -> String {
     format!("{}, v1 {v1} km/s, v2 {v2} km/s", kind(entry))
 }
 
-/// Returns what is said of an answer that the solver cannot have written.
-pub fn foreign(entries: u16, words: &str) -> String {
-    format!("{}, not the solver's: {words}", counted(entries.into(), "transfer"))
+/// Returns the words for an answer that the solver cannot have written.
+pub fn impossible(entries: u16, words: &str) -> String {
+    format!("{} that the solver cannot have written: {words}", counted(entries.into(), "transfer"))
 }
 
 #[cfg(test)]

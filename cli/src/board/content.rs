@@ -1,20 +1,18 @@
 //! What an input holds if it does not hold records.
 
-use super::posting::NO_BOARD;
-use crate::expected::{other, Content};
-use crate::proved::post;
+use crate::expected::{is_board_alone, other, Content};
 use crate::stop::Stop;
 use crate::streams::Input;
 use crate::wire::slots::BOARD;
-use crate::wire::{u32_at, ROOM};
 use std::io::{self, Cursor, Read};
 
 /// Returns a sentence that says what an input holds, if it plainly does not hold records.
-pub fn foreign(input: &mut Input) -> Result<Option<&'static str>, Stop> {
+pub fn other_content(input: &mut Input) -> Result<Option<&'static str>, Stop> {
     if let Some(words) = other(input, Content::Records)? {
         return Ok(Some(words));
     }
-    Ok(is_board(beginning(input)).then_some("is a board, not records: '--board FILE' starts from a board"))
+    Ok(is_board_alone(&beginning(input))
+        .then_some("is a board, not records: '--board FILE' starts from a board"))
 }
 
 /// Returns the message for an input that has no bytes. Nothing is missing on the board then, but a user may expect records in it.
@@ -33,27 +31,21 @@ fn beginning(input: &mut Input) -> Vec<u8> {
     bytes
 }
 
-/// Whether the bytes are a board that cannot be read as records. If all its slots are full, it can.
-fn is_board(mut bytes: Vec<u8>) -> bool {
-    bytes.len() == BOARD
-        && post(&mut bytes, &[]) != NO_BOARD
-        && bytes.chunks(ROOM).any(|slot| u32_at(slot, 0) as usize + 4 != ROOM)
-}
-
 #[cfg(test)]
 mod tests {
     use super::*;
     use crate::board::posting::tests::{answer, refusal};
+    use crate::proved::post;
 
     #[test]
     fn a_board_is_told_from_records() {
         let mut board = vec![0; BOARD];
-        assert!(is_board(board.clone()), "an empty board");
+        assert!(is_board_alone(&board), "an empty board");
         post(&mut board, &refusal(1, 11));
-        assert!(is_board(board.clone()));
-        assert!(!is_board(board[1..].to_vec()) && !is_board([&board[..], &[0]].concat()));
+        assert!(is_board_alone(&board));
+        assert!(!is_board_alone(&board[1..]) && !is_board_alone(&[&board[..], &[0]].concat()));
         let full: Vec<u8> = (1..=64).flat_map(|job| answer(job, &[1.0; 8])).collect();
-        assert!(full.len() == BOARD && !is_board(full), "64 of the longest records are records");
+        assert!(full.len() == BOARD && !is_board_alone(&full), "64 of the longest records are records");
     }
 
     #[test]

@@ -8,8 +8,8 @@ use crate::wire::Outcome;
 use crate::words::wrapped;
 
 const NO_SURFACE: &str =
-    "the board has no questions, so it is not known here which transfers pass below a surface: \
-    'show --questions' says it";
+    "a board does not keep questions, so this table cannot warn of transfers below a surface: \
+    use 'lambert-cli show --questions'";
 const NO_MEANING: &str = "--explain says what a refusal means";
 
 pub fn lines(posting: &Posting, look: &Look) -> String {

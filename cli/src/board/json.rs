@@ -1,13 +1,14 @@
 //! A board as JSON: an object for each filled slot, on one line. If something is missing, the last object says what.
 
-use super::conflict::foreign;
+use super::conflict::impossible;
 use super::difference::{first, Difference};
 use super::names::Names;
 use super::origins::{Kept, Origin, Place};
 use super::posting::Posting;
 use crate::json::{array, number, object, string};
-use crate::orbit::{kind, size, x_of};
+use crate::orbit::{kind, x_of};
 use crate::refusal;
+use crate::vectors::size;
 use crate::wire::slots::{filled, held, Filled, Held};
 use crate::wire::{Entry, Outcome};
 
@@ -49,7 +50,7 @@ fn outcome(held: &Held) -> Fields {
             vec![
                 state("answered"),
                 ("transfers", "null".into()),
-                ("fault", string(&foreign(*entries, words))),
+                ("fault", string(&impossible(*entries, words))),
             ]
         }
     }

@@ -2,6 +2,7 @@
 
 use super::origins::Place;
 use crate::wire::ROOM;
+use crate::words::printable;
 
 #[derive(Default)]
 pub struct Names {
@@ -22,16 +23,10 @@ impl Names {
     /// Returns a place in words.
     pub fn place(&self, place: Place) -> String {
         match (place, self.file_and_byte(place)) {
-            (Place::Stored { slot }, (file, _)) => format!("{}, slot {slot}", shown(file)),
-            (Place::Input { .. }, (file, byte)) => format!("{}, byte {byte}", shown(file)),
+            (Place::Stored { slot }, (file, _)) => format!("{}, slot {slot}", printable(file)),
+            (Place::Input { .. }, (file, byte)) => format!("{}, byte {byte}", printable(file)),
         }
     }
-}
-
-/// Returns a file name for people. A control character in it is escaped, so that it cannot break a line or change a terminal.
-pub fn shown(name: &str) -> String {
-    let parts = name.chars().map(|c| if c.is_control() { c.escape_default().to_string() } else { c.into() });
-    parts.collect()
 }
 
 #[cfg(test)]

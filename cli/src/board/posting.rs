@@ -1,7 +1,7 @@
 //! Posts the records of inputs, prints a message for each record that the board refuses, and keeps what explains the board.
 
-use super::content::{empty, foreign};
-use super::names::{shown, Names};
+use super::content::{empty, other_content};
+use super::names::Names;
 use super::origins::{Origins, Place};
 use super::tally::Tally;
 use crate::proved::{post, TAKEN};
@@ -9,6 +9,7 @@ use crate::stop::{tell, Stop};
 use crate::streams::Input;
 use crate::wire::slots::SLOTS;
 use crate::wire::{form, u32_at, Frames};
+use crate::words::printable;
 use std::io::BufReader;
 
 /// The numbers of a board's refusals, B0 to B3.
@@ -36,10 +37,10 @@ impl Posting {
 
     /// Posts the records of an input up to its end or the first fault.
     pub fn post_all(&mut self, name: String, input: Result<Input, Stop>) {
-        let shown = shown(&name);
+        let shown = printable(&name);
         self.names.inputs.push(name);
         let cut = format!("{shown} could not be read to its end");
-        let input = match input.and_then(|mut input| Ok((foreign(&mut input)?, input))) {
+        let input = match input.and_then(|mut input| Ok((other_content(&mut input)?, input))) {
             Ok((None, input)) => input,
             Ok((Some(words), _)) => {
                 let what = words.split(':').next().unwrap_or_default();

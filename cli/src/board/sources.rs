@@ -1,9 +1,9 @@
 //! The inputs of records: files, the files of folders, and standard input. They are checked before anything is posted, and opened
 //! one after the other.
 
-use super::names::shown;
 use crate::stop::{tell, Stop};
 use crate::streams::{FileId, Input};
+use crate::words::printable;
 use std::fs::{self, File, FileType};
 use std::io;
 use std::os::unix::ffi::OsStrExt;
@@ -32,7 +32,7 @@ pub fn list(names: &[String]) -> Result<Vec<Source>, Stop> {
     }
     let mut sources = Vec::new();
     for name in names {
-        let failed = |e| Stop::reading(&shown(name), &e);
+        let failed = |e| Stop::reading(&printable(name), &e);
         if name == "-" {
             sources.push(standard());
         } else if fs::metadata(name).map_err(failed)?.is_dir() {
@@ -53,15 +53,15 @@ const NAMED: usize = 20;
 fn files_of(folder: &str) -> io::Result<Vec<PathBuf>> {
     let (files, others) = content_of(folder)?;
     if files.is_empty() {
-        tell(&format!("{}: this folder has no file to read", shown(folder)));
+        tell(&format!("{}: this folder has no file to read", printable(folder)));
     }
     for (path, kind) in others.iter().take(NAMED) {
-        tell(&format!("{}: is not read, because it is a {kind}", shown(&path.to_string_lossy())));
+        tell(&format!("{}: is not read, because it is a {kind}", printable(&path.to_string_lossy())));
     }
     if others.len() > NAMED {
         let more = others.len() - NAMED;
         let are = if more == 1 { "is" } else { "are" };
-        tell(&format!("{}: {more} more in this folder {are} not read", shown(folder)));
+        tell(&format!("{}: {more} more in this folder {are} not read", printable(folder)));
     }
     Ok(files)
 }
@@ -109,7 +109,7 @@ fn checked(path: &Path) -> Result<Source, Stop> {
 }
 
 fn opened(path: &Path, name: &str) -> Result<Input, Stop> {
-    let name = shown(name);
+    let name = printable(name);
     let opened = File::open(path).and_then(|file| Ok((file.metadata()?, file)));
     let (about, file) = opened.map_err(|e| Stop::reading(&name, &e))?;
     Ok(Input { name, bytes: Box::new(file), file: Some(about) })

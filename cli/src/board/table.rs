@@ -1,12 +1,13 @@
 //! A board as a table: rows for each job, and the lines below the rows.
 
-use super::conflict::{foreign, sentences, CONFLICT};
+use super::conflict::{impossible, sentences, CONFLICT};
 use super::foot;
 use super::posting::Posting;
-use crate::orbit::{kind, size, x_of};
+use crate::orbit::{kind, x_of};
 use crate::refusal;
 use crate::show::layout::{number, words, Layout};
 use crate::terminal::{Colour, Mark};
+use crate::vectors::size;
 use crate::wire::slots::{filled, Filled, Held};
 use crate::wire::{Entry, Outcome};
 use crate::words::component;
@@ -82,7 +83,7 @@ fn lines(slot: &Filled, posting: &Posting, look: &Look, layout: &Layout) -> Vec<
             let which = |i: usize| format!("{} of {}", i + 1, entries.len());
             entries.iter().enumerate().flat_map(|(i, entry)| transfer(entry, which(i), layout)).collect()
         }
-        Held::Foreign(entries, words) => say(Some(Mark::Warning), &foreign(*entries, words)),
+        Held::Foreign(entries, words) => say(Some(Mark::Warning), &impossible(*entries, words)),
     }
 }
 

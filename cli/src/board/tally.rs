@@ -19,6 +19,11 @@ pub struct Tally {
 }
 
 impl Tally {
+    /// Reports whether no record came.
+    pub fn is_empty(&self) -> bool {
+        self.records == 0
+    }
+
     /// Counts a record of an input.
     pub fn came(&mut self) {
         self.records += 1;

@@ -66,7 +66,7 @@ impl Columns {
             self.names.push(column);
         }
         if !left_out.is_empty() {
-            tell(&format!("{file}: the columns that are left out: {}", left_out.join(", ")));
+            tell(&format!("{file}: these columns are left out: {}", left_out.join(", ")));
         }
         for column in known[..needed].iter().filter(|column| !self.has(column.name)) {
             mistakes.push(format!("{}: line 1, column {}: is missing", self.file, column.name));

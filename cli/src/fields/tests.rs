@@ -59,8 +59,11 @@ fn names_are_exact() {
     assert_eq!((way("short"), way("long")), (Ok(false), Ok(true)));
     assert_eq!(way("Short"), Err("\"Short\" is neither short nor long".into()));
     assert_eq!(vector("1, 2,3"), Ok([1.0, 2.0, 3.0]));
-    assert_eq!(vector("1,2"), Err("has 2 components, not 3".into()));
-    assert_eq!(vector("1,2,3,4"), Err("has 4 components, not 3".into()));
+    assert_eq!(vector("1,2"), Err("has 2 components, not 3: write x,y,z with commas and no blanks".into()));
+    assert_eq!(
+        vector("1,2,3,4"),
+        Err("has 4 components, not 3: write x,y,z with commas and no blanks".into())
+    );
     assert_eq!(vector("1,,3"), Err("is empty".into()));
 }
 

@@ -41,7 +41,7 @@ pub fn leave_out_present(files: &mut Files, mistakes: &mut Mistakes) -> usize {
         Err(e) if e.kind() == io::ErrorKind::NotFound => true,
         found => {
             let words =
-                found.map_or_else(|e| e.to_string(), |_| "it is there already, with other bytes (a creation date that is not given changes with the clock)".into());
+                found.map_or_else(|e| e.to_string(), |_| "it is there already, with other bytes; without --creation-date the date is that of the clock".into());
             mistakes.push(place.say(format!("cannot write {}: {words}", path.display())));
             true
         }

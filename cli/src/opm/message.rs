@@ -27,8 +27,8 @@ pub struct OrbitMessage {
     pub revision: u32,
     pub entry: u32,
     pub bytes: Vec<u8>,
-    /// What the orbit message does not say: that the transfer passes below the surface.
-    pub warning: Option<String>,
+    /// What the orbit message does not say.
+    pub warnings: Vec<String>,
 }
 
 /// Returns the orbit message that is asked for, or the sentences that say why there is none.
@@ -45,7 +45,7 @@ pub fn make(request: &Request, sources: &Sources) -> Result<OrbitMessage, Vec<St
     if let Some(words) = belongs::fault(question, &record.outcome) {
         let which = words_of(key);
         return Err(say(format!(
-            "the record of {which} does not answer the question of that number: {words}"
+            "the record of {which} does not answer the question of that job and revision: {words}"
         )));
     }
     let entry = match (request.entry, &entries[..]) {
@@ -55,9 +55,9 @@ pub fn make(request: &Request, sources: &Sources) -> Result<OrbitMessage, Vec<St
     };
     match orbit_message(bytes, entry.into(), question.r1, &texts::lines(&request.texts)) {
         Ok(bytes) => {
-            let facts = Facts::of(question, &entries[entry as usize - 1], None);
-            let warning = facts.warning().map(|words| format!("{}, transfer {entry} {words}", words_of(key)));
-            Ok(OrbitMessage { job: key.0, revision: key.1, entry, bytes, warning })
+            let facts = Facts::of(question, &entries[entry as usize - 1], sources.radius);
+            let which = format!("{}, transfer {entry}", words_of(key));
+            Ok(OrbitMessage { job: key.0, revision: key.1, entry, bytes, warnings: warnings(&which, &facts) })
         }
         Err(TEXT) => Err(texts::why(&request.texts)),
         Err(NO_ENTRY) => Err(vec![no_entry(request, key, entry, entries)]),
@@ -65,6 +65,15 @@ pub fn make(request: &Request, sources: &Sources) -> Result<OrbitMessage, Vec<St
         Err(MALFORMED) => Err(say(format!("the record of {} is malformed (B1)", words_of(key)))),
         Err(number) => Err(say(format!("the orbit message of {} is refused with B{number}", words_of(key)))),
     }
+}
+
+fn warnings(which: &str, facts: &Facts) -> Vec<String> {
+    let mut warnings: Vec<String> = facts.warnings().iter().map(|words| format!("{which} {words}")).collect();
+    if facts.surface.is_none() {
+        let how = "give the body's radius with --radius";
+        warnings.push(format!("{which} could not be checked against a surface: {how}"));
+    }
+    warnings
 }
 
 fn refused(key: Key, number: u16) -> String {

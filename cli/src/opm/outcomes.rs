@@ -87,7 +87,7 @@ impl Outcomes {
             [] => Err(format!("{name}: has no record of {}", wanted(request))),
             [(_, (bytes, false))] => Ok(bytes),
             [(key, (_, true))] => Err(format!(
-                "{name}: has different records of {}, which is a conflict: nothing says which of them counts",
+                "{name}: has different records of {}, which is a conflict: opm cannot tell which of them is right",
                 words_of(*key)
             )),
             _ => {

@@ -12,14 +12,20 @@ use crate::streams::Input;
 pub struct Sources {
     pub outcomes: Outcomes,
     pub questions: Questions,
+    /// The radius of the body in km, if it is given.
+    pub radius: Option<f64>,
 }
 
 impl Sources {
     /// Reads what the requests need.
-    pub fn read([records, questions]: &mut [Input; 2], requests: &[Request]) -> Result<Sources, Stop> {
+    pub fn read(
+        [records, questions]: &mut [Input; 2],
+        requests: &[Request],
+        radius: Option<f64>,
+    ) -> Result<Sources, Stop> {
         let outcomes = Outcomes::read(records, requests)?;
         let questions = Questions::read(questions, &outcomes)?;
-        Ok(Sources { outcomes, questions })
+        Ok(Sources { outcomes, questions, radius })
     }
 }
 

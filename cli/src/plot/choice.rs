@@ -19,7 +19,7 @@ impl Choice {
     pub fn read(options: &Options) -> Result<Choice, Stop> {
         match (options.value("--job"), options.value("--slot")) {
             (None, None) => Ok(Choice::Only),
-            (Some(_), Some(_)) => Stop::said("--job and --slot do not go together"),
+            (Some(_), Some(_)) => Stop::said("--job and --slot cannot be used together"),
             (Some(job), None) => match job.parse() {
                 Ok(job @ 1..) => Ok(Choice::Job(job)),
                 _ => Stop::said("--job takes a whole number from 1 to 4294967295"),

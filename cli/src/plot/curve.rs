@@ -35,13 +35,12 @@ impl Curve {
 #[cfg(test)]
 mod tests {
     use super::*;
-    use crate::plot::record;
-    use crate::wire::SLOT;
+    use crate::wire::{Record, SLOT};
 
     #[test]
     fn the_curve_crosses_where_the_record_says() {
         for slot in include_bytes!("../../../samples/questions").chunks(SLOT).take(5) {
-            let outcome = record(slot).ok().expect("a record").outcome;
+            let outcome = Record::of_question(slot).ok().expect("a record").outcome;
             let curve = Curve::of(slot, &outcome).expect("past the entrance");
             let below = |place: &Place| place.1.map(|time| time < curve.wanted);
             let crosses = |pair: &&[Place]| below(&pair[0]).is_some() && below(&pair[0]) != below(&pair[1]);

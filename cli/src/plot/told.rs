@@ -3,7 +3,7 @@
 use super::curve::Curve;
 use super::measure::NO_BREAK;
 use crate::orbit::{end, kind, x_of};
-use crate::refusal::{self, nothing_found};
+use crate::show::refused;
 use crate::wire::{Entry, Outcome, Question};
 use crate::words::{asked, number};
 
@@ -15,18 +15,17 @@ pub fn question(question: &Question) -> String {
 /// Returns the outcome in words: an item for each bracket, or the refusal.
 pub fn outcome(question: &Question, outcome: &Outcome) -> Vec<String> {
     match outcome {
-        Outcome::Refused(number) => vec![refused(question, *number)],
+        Outcome::Refused(number) => refused(question, *number),
         Outcome::Answered(entries) => {
             entries.iter().enumerate().map(|(i, entry)| bracket(i, entry)).collect()
         }
     }
 }
 
-/// Returns the meaning of a refusal. Number 11 also says what follows for this question.
-fn refused(question: &Question, number: u16) -> String {
-    let more = Some(question).filter(|_| number == 11).and_then(nothing_found::words);
-    let more = more.map(|words| format!(". {words}")).unwrap_or_default();
-    format!("refused {number}: {}{more}", refusal::words(number))
+/// Returns the meaning of a refusal, and what to do about it.
+fn refused(question: &Question, number: u16) -> Vec<String> {
+    let words = refused::words(number, Some(question));
+    vec![format!("refused {number}: {words}"), refused::advice(number, Some(question))]
 }
 
 fn bracket(i: usize, entry: &Entry) -> String {

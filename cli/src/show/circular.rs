@@ -1,7 +1,7 @@
 //! The velocity changes from a circular orbit to a transfer and from the transfer to a circular orbit. The circular orbits pass
 //! through the question's positions, in the plane and the direction of the transfer.
 
-use crate::orbit::size;
+use crate::vectors::{cross, dot, size};
 use crate::wire::{Entry, Question};
 
 /// The names of both changes in JSON and CSV.
@@ -18,9 +18,7 @@ pub fn changes(question: &Question, entry: &Entry) -> [f64; 2] {
 fn change(mu: f64, position: [f64; 3], v: [f64; 3]) -> f64 {
     let r = size(position);
     let u = position.map(|component| component / r);
-    let radial = u[0] * v[0] + u[1] * v[1] + u[2] * v[2];
-    let across = [u[1] * v[2] - u[2] * v[1], u[2] * v[0] - u[0] * v[2], u[0] * v[1] - u[1] * v[0]];
-    radial.hypot(size(across) - (mu / r).sqrt())
+    dot(u, v).hypot(size(cross(u, v)) - (mu / r).sqrt())
 }
 
 #[cfg(test)]

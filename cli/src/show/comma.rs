@@ -6,7 +6,8 @@ use super::item::{Item, Transfer};
 use super::pairs::Asked;
 use super::refused;
 use crate::csv::line;
-use crate::orbit::{end, kind, size, x_of};
+use crate::orbit::{end, kind, x_of};
+use crate::vectors::size;
 use crate::wire::{Outcome, Question};
 
 const RECORD: &str = "job,revision,outcome,number,meaning,transfer,transfers";
@@ -35,7 +36,8 @@ pub fn item(item: &Item) -> String {
         Outcome::Answered(_) => {
             let lines = item.transfers().map(|transfer| {
                 let (number, count) = (transfer.number.to_string(), transfer.count.to_string());
-                let said = ["answered".into(), String::new(), String::new(), number, count];
+                let note = item.note().unwrap_or_default().into();
+                let said = ["answered".into(), String::new(), note, number, count];
                 let asked = asked_fields(item.asked, transfer.facts);
                 line(&[&own[..], &said, &transfer_fields(&transfer), &asked].concat())
             });

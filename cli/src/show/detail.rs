@@ -4,8 +4,9 @@ use super::facts::{Facts, Surface};
 use super::item::Transfer;
 use super::numbers::distance;
 use super::pairs::Asked;
-use crate::orbit::{end, size, x_of};
-use crate::words::{self, component};
+use crate::orbit::{end, x_of};
+use crate::vectors::size;
+use crate::words::{self, component, number};
 
 /// Returns what was asked.
 pub fn asked(asked: &Asked) -> Vec<String> {
@@ -34,7 +35,9 @@ pub fn transfer(transfer: &Transfer) -> Vec<String> {
     ];
     if let Some(Facts { arc, surface, .. }) = facts {
         let surface = match surface {
-            Some(Surface { body, radius, source }) => format!("{body} has the radius {radius} km ({source})"),
+            Some(Surface { body, radius, source }) => {
+                format!("{body} has the radius {} km ({source})", number(*radius))
+            }
             None => "the radius of the body is not known, give it with --radius".into(),
         };
         let lowest = distance(arc.lowest());

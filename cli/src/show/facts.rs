@@ -6,6 +6,7 @@ use crate::arc::Arc;
 use crate::fields::body_of;
 use crate::propagation;
 use crate::wire::{Entry, Question};
+use crate::words::number;
 
 /// The surface of the body that a transfer goes round.
 #[derive(Clone, Copy)]
@@ -55,12 +56,36 @@ impl Facts {
         self.surface.filter(|surface| self.arc.lowest() < surface.radius)
     }
 
-    /// Returns a sentence for a transfer that passes below the surface.
-    pub fn warning(&self) -> Option<String> {
+    /// Returns the sentences that have to be known before a transfer is used.
+    pub fn warnings(&self) -> Vec<String> {
+        [self.surface_warning(), self.miss_warning()].into_iter().flatten().collect()
+    }
+
+    fn surface_warning(&self) -> Option<String> {
         let Surface { body, radius, .. } = self.passed()?;
         Some(format!(
-            "passes below the surface of {body}: lowest {:.1} km from the centre, radius {radius} km",
-            self.arc.lowest()
+            "passes below the surface of {body}: lowest {:.1} km from the centre, radius {} km",
+            self.arc.lowest(),
+            number(radius)
         ))
     }
+
+    fn miss_warning(&self) -> Option<String> {
+        let km = self.miss? / 1000.0;
+        let far = km > LARGE_MISS * self.arc.radii[1];
+        far.then(|| {
+            format!(
+                "misses r2 by {} km: correct v1 with a propagation before you use it",
+                number(rounded(km))
+            )
+        })
+    }
+}
+
+/// The part of |r2| above which a miss is large. The transfers of mission-like questions in the tests stay below a tenth of it.
+const LARGE_MISS: f64 = 1e-4;
+
+/// Returns a number with three digits.
+fn rounded(value: f64) -> f64 {
+    format!("{value:.2e}").parse().unwrap_or(value)
 }

@@ -40,6 +40,14 @@ impl<'a> Item<'a> {
         }
     }
 
+    /// Returns what an answer with whole revolutions and one transfer does not say. The time of flight falls to its least and rises again,
+    /// so every longer time has two transfers.
+    pub fn note(&self) -> Option<&'static str> {
+        let revolutions = self.question().is_some_and(|question| question.revolutions > 0);
+        let one = matches!(&self.record.outcome, Outcome::Answered(entries) if entries.len() == 1);
+        (revolutions && one).then_some("with whole revolutions a second transfer exists beyond the search")
+    }
+
     /// Returns the number of records that the item stands for.
     pub fn count(&self) -> u64 {
         let first = self.question().map_or(0, |question| question.revolutions);

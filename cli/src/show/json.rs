@@ -6,7 +6,8 @@ use super::item::{Item, Transfer};
 use super::pairs::Asked;
 use super::refused;
 use crate::json::{array, number, number_or_null, object, string};
-use crate::orbit::{end, kind, size, x_of};
+use crate::orbit::{end, kind, x_of};
+use crate::vectors::size;
 use crate::wire::{Outcome, Question};
 
 pub fn item(item: &Item) -> String {
@@ -23,6 +24,7 @@ pub fn item(item: &Item) -> String {
                 ("outcome", string("answered")),
                 ("transfers", array(item.transfers().map(|one| transfer(&one)))),
             ]);
+            fields.extend(item.note().map(|note| ("note", string(note))));
         }
     }
     match item.asked {

@@ -1,4 +1,4 @@
-//! Numbers of the table, rounded to what a desk reads. JSON and CSV have all digits.
+//! Numbers of the table, rounded to the digits that people need. JSON and CSV have all digits.
 
 /// Returns a distance in km.
 pub fn distance(km: f64) -> String {

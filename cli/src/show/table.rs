@@ -1,4 +1,4 @@
-//! Records as a table for a desk: a line for each transfer or refusal, what has to be known about it below, and a
+//! Records as a table for people: a line for each transfer or refusal, what has to be known about it below, and a
 //! summary at the end.
 
 use super::facts::Facts;
@@ -8,9 +8,10 @@ use super::numbers::{distance, miss, speed};
 use super::pairs::Asked;
 use super::view::View;
 use super::{detail, refused};
-use crate::orbit::{kind, size};
+use crate::orbit::kind;
 use crate::refusal;
 use crate::terminal::Mark;
+use crate::vectors::size;
 use crate::wire::{Outcome, Question, Record};
 use crate::words::wrapped;
 
@@ -50,7 +51,8 @@ impl Table {
             }
         };
         let asked = if view.detail { detail::asked(item.asked) } else { Vec::new() };
-        text + &self.indented(&asked, view)
+        let note = item.note().map(|note| self.indented(&[format!("NOTE: {note}")], view));
+        text + &note.unwrap_or_default() + &self.indented(&asked, view)
     }
 
     fn names(&self, item: &Item) -> [String; 2] {
@@ -71,7 +73,7 @@ impl Table {
     fn transfer(&self, transfer: &Transfer, item: &Item, view: &View) -> String {
         let names = if transfer.number == 1 { self.names(item) } else { Default::default() };
         let mut text = self.layout.row(&[&names[..], &cells(transfer)].concat());
-        if let Some(warning) = transfer.facts.and_then(Facts::warning) {
+        for warning in transfer.facts.map(Facts::warnings).unwrap_or_default() {
             let lines = self.indented(&[format!("WARNING: {warning}")], view);
             text += &view.colour.paint(Mark::Warning, &lines);
         }
@@ -140,8 +142,8 @@ pub fn notes(with_questions: bool, view: &View) -> String {
     let notes: &[&str] = if with_questions {
         &[
             "perigee and apogee are distances from the centre. dv1 and dv2 are the velocity changes from and to a \
-             circular orbit through r1 and r2 in the transfer's own plane and direction: changing the plane or the \
-             direction of another orbit costs more. miss is the distance from r2 at arrival, by propagation. All this, \
+             circular orbit through r1 and r2 in the transfer's own plane and direction: a circular orbit in another \
+             plane or direction needs a larger change. miss is the distance from r2 at arrival, by propagation. All this, \
              the inclination and the warnings are computed for this table: they are tested, not proved.",
         ]
     } else {
@@ -157,9 +159,13 @@ pub fn transfers(record: &Record, question: &Question) -> Vec<String> {
     let asked = Asked::Known(question.clone());
     let (item, columns) = (Item::new(record, &asked, None), columns(true));
     let layout = Layout::new(columns, 0, None);
-    let row = |transfer: Transfer| layout.row(&cells(&transfer));
-    let rows = item.transfers().map(row);
-    [layout.head()].into_iter().chain(rows).map(|line| line.trim_end().into()).collect()
+    let mut lines = vec![layout.head()];
+    for transfer in item.transfers() {
+        lines.push(layout.row(&cells(&transfer)));
+        let warnings = transfer.facts.map(Facts::warnings).unwrap_or_default();
+        lines.extend(warnings.iter().map(|warning| format!("WARNING: {warning}")));
+    }
+    lines.into_iter().map(|line| line.trim_end().into()).collect()
 }
 
 #[cfg(test)]

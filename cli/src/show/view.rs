@@ -47,21 +47,12 @@ impl View {
             explain: options.has("--explain"),
             colour: Colour::of_output(options.value("-o").is_some_and(|name| name != "-")),
             columns: terminal::columns(),
-            radius: options.value("--radius").map(radius).transpose()?,
+            radius: options.value("--radius").map(fields::radius).transpose()?,
         })
     }
 
     /// Returns the width at which words are broken.
     pub fn width(&self) -> usize {
         self.columns.unwrap_or(WIDTH).max(LEAST)
-    }
-}
-
-/// Reads the radius of a body in km.
-pub fn radius(text: &str) -> Result<f64, Stop> {
-    match fields::real(text) {
-        Ok(radius) if radius > 0.0 => Ok(radius),
-        Ok(_) => Stop::said(format!("--radius: {} is not above 0", text.trim())),
-        Err(words) => Stop::said(format!("--radius: {words}")),
     }
 }

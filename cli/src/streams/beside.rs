@@ -70,7 +70,7 @@ fn followed(name: &str) -> io::Result<PathBuf> {
     Err(io::Error::other("too many links"))
 }
 
-/// Removes the file beside. After a rename it is not there any more, and that is no fault.
+/// Removes the file beside. After a rename it is not there any more, which is not an error.
 impl Drop for Beside {
     fn drop(&mut self) {
         let _ = fs::remove_file(&self.made);

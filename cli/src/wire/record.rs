@@ -2,6 +2,8 @@
 
 use super::form::{behind_head, size_of, ENTRY, HEAD, ROOM};
 use super::{f64_at, i64_at, read_full, u16_at, u32_at, Fault};
+use crate::proved::record_of;
+use crate::stop::Stop;
 use std::io::{self, Read};
 
 /// The stations are 2^20 apart, from -2^32 + 2^20 to 2^34.
@@ -78,6 +80,16 @@ impl Record {
             Outcome::Answered(entries.collect::<Result<_, _>>()?)
         };
         Ok(Record { job: u32_at(bytes, 6), revision: u32_at(bytes, 10), outcome })
+    }
+}
+
+impl Record {
+    /// Returns the solver's record of a question.
+    pub fn of_question(slot: &[u8]) -> Result<Record, Stop> {
+        match Records::new(&record_of(slot)[..]).next() {
+            Ok(Ok(Some(record))) => Ok(record),
+            _ => Stop::said("the solver's record cannot be read"),
+        }
     }
 }
 

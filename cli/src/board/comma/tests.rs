@@ -20,7 +20,7 @@ fn each_transfer_refusal_and_conflict_is_a_line() {
         "2|1|answered|||1|2|ellipse|0.0|1.5|5.0||||".into(),
         "2|1|answered|||2|2|ellipse|0.0|2.5|5.0||||".into(),
         format!("3|1|conflict||{conflict}|||||||a,\"b\"|160|c|0"),
-        "4|1|answered||1 transfer, not the solver's: entry 1: a velocity component is NaN||1||||||||".into(),
+        "4|1|answered||1 transfer that the solver cannot have written: entry 1: a velocity component is NaN||1||||||||".into(),
     ];
     assert_eq!(found, expected);
     assert!(!text.contains('\r'));

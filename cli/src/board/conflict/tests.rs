@@ -48,7 +48,13 @@ fn a_stored_board_is_named() {
 #[test]
 fn a_strange_answer_is_not_shown_as_transfers() {
     let mut strange = answer(2, &[f64::NAN]);
-    assert_eq!(phrase(&held(&strange)), "1 transfer, not the solver's: entry 1: a velocity component is NaN");
+    assert_eq!(
+        phrase(&held(&strange)),
+        "1 transfer that the solver cannot have written: entry 1: a velocity component is NaN"
+    );
     strange[24] = 21;
-    assert_eq!(phrase(&held(&strange)), "1 transfer, not the solver's: entry 1: halvings are 21, above 20");
+    assert_eq!(
+        phrase(&held(&strange)),
+        "1 transfer that the solver cannot have written: entry 1: halvings are 21, above 20"
+    );
 }

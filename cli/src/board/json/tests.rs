@@ -29,7 +29,12 @@ fn values_that_json_lacks_are_strings() {
     let posting = of_files(&[("a", [answer(1, &[f64::INFINITY]), answer(1, &[1e300])].concat())]);
     let text = lines(&posting);
     assert!(text.contains(r#""field":"v1 x of transfer 1","values":["inf",1e300]"#), "{text}");
-    assert!(text.contains(r#""transfers":null,"fault":"1 transfer, not the solver's: entry 1: "#), "{text}");
+    assert!(
+        text.contains(
+            r#""transfers":null,"fault":"1 transfer that the solver cannot have written: entry 1: "#
+        ),
+        "{text}"
+    );
 }
 
 #[test]

@@ -55,7 +55,7 @@ fn what_does_not_choose_one_record_is_said() {
     assert_eq!(said(Some(5), None), format!("{words} with --revision{keys}"));
     assert_eq!(line(&records, 5, None), Err(format!("{words} in the column revision{keys}")));
     let words = "in: has different records of job 6, revision 1, which is a conflict:";
-    assert_eq!(said(Some(6), None), format!("{words} nothing says which of them counts"));
+    assert_eq!(said(Some(6), None), format!("{words} opm cannot tell which of them is right"));
     assert_eq!(options(&[], None, None), Err("in: has no record".into()));
     assert_eq!(line(&[refusal(9, 1, 9)], 5, None), Err("in: has no record of job 5".into()));
 }

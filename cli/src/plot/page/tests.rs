@@ -153,7 +153,7 @@ fn extreme() -> Vec<Question> {
 
 fn drawn(question: &Question, radius: Option<f64>) -> (Outcome, String) {
     let slot = question.bytes();
-    let outcome = crate::plot::record(&slot).ok().expect("a record").outcome;
+    let outcome = crate::wire::Record::of_question(&slot).ok().expect("a record").outcome;
     let curve = Curve::of(&slot, &outcome);
     let page = page(question, &outcome, curve.as_ref(), radius);
     (outcome, page)

@@ -1,4 +1,4 @@
-//! The body at the centre, as far as it is known, and what is said of transfers that pass below its surface.
+//! The body at the centre, as far as it is known, and the warnings about transfers that pass below its surface.
 
 use crate::fields::body_of;
 use crate::plot::measure::NO_BREAK;

@@ -1,5 +1,5 @@
 use super::*;
-use crate::plot::record;
+use crate::wire::Record;
 use path::distance;
 
 const EARTH: f64 = 398_600.441_8;
@@ -34,7 +34,7 @@ fn needles() -> Vec<Question> {
 }
 
 fn transfers(question: &Question, radius: Option<f64>) -> Option<Transfers> {
-    let outcome = record(&question.bytes()).ok().expect("a record").outcome;
+    let outcome = Record::of_question(&question.bytes()).ok().expect("a record").outcome;
     Transfers::of(question, &outcome, radius)
 }
 
@@ -67,7 +67,7 @@ fn every_way_leads_from_r1_to_r2() {
 #[test]
 fn the_way_takes_the_time_asked_for() {
     for question in ordinary().iter().filter(|question| question.revolutions == 0) {
-        let outcome = record(&question.bytes()).ok().expect("a record").outcome;
+        let outcome = Record::of_question(&question.bytes()).ok().expect("a record").outcome;
         let transfers = Transfers::of(question, &outcome, None).expect("an answer");
         let Outcome::Answered(entries) = &outcome else { panic!("an answer") };
         for (flown, entry) in transfers.flights.iter().zip(entries) {

@@ -1,7 +1,7 @@
 //! Questions as missions ask them and from anywhere in the allowed ranges, with the answers of the solver.
 
-use crate::orbit::size;
 use crate::proved::record_of;
+use crate::vectors::size;
 use crate::wire::{Entry, Outcome, Question, Records};
 use std::f64::consts::{PI, TAU};
 

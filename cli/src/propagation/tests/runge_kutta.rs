@@ -1,7 +1,7 @@
 //! A plain integration of r'' = −mu·r/|r|³ by a Runge-Kutta method of order 6, to compare with. It shares nothing with `propagation`
 //! and `arc` but the size of a vector.
 
-use crate::orbit::size;
+use crate::vectors::size;
 use crate::wire::{Entry, Question};
 
 /// The method of Butcher with seven stages: the parts of the earlier rates with which each stage after the first begins, and the parts
