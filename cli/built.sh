@@ -1,6 +1,6 @@
 # Sourced by cli/run and cli/build. The functions tell whether lambert-cli is up to date, and what it is built from.
 
-# is_current FOLDER: whether FOLDER/target has a lambert-cli that was built from the sources as they are now. FOLDER is cli. A folder is
+# is_current FOLDER: whether FOLDER/target has a lambert-cli that was built from the sources as they are now. FOLDER is the path of the folder cli. A folder is
 # newer than the build if a file in it was added or removed since.
 is_current() {
     local built=$1/target/built newer
