@@ -51,11 +51,13 @@ pub fn asked(case: &Case, found: &Found, folder: &Folder) -> Result<(), String> 
     rule(run(folder, &["check", "--questions", "made"])?.status == Some(0), "ask writes what check refuses")
 }
 
-/// `solve` writes what lambert writes, and `show` takes it with the questions. It may refuse text and records.
+/// `solve` writes what lambert writes, and `show` takes it with the questions. It may refuse text, records and a board, and an empty
+/// input if it would have to write an empty file.
 pub fn solved(case: &Case, found: &Found, folder: &Folder) -> Result<(), String> {
     if found.status == Some(2) {
+        let message = String::from_utf8_lossy(&found.err);
         return rule(
-            String::from_utf8_lossy(&found.err).contains("not questions"),
+            ["not questions", "is a board", "is empty"].iter().any(|words| message.contains(words)),
             "solve refuses its input",
         );
     }
