@@ -30,6 +30,7 @@ mod solve;
 mod standard;
 mod stop;
 mod streams;
+mod surface;
 #[allow(unsafe_code)]
 mod terminal;
 mod vectors;

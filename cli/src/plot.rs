@@ -3,7 +3,6 @@
 mod axes;
 mod choice;
 mod curve;
-mod flight;
 mod graph;
 mod measure;
 mod page;
@@ -11,6 +10,7 @@ mod room;
 mod sheet;
 mod svg;
 mod ticks;
+mod time_scale;
 mod told;
 mod trace;
 mod transfer;

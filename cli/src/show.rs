@@ -1,12 +1,14 @@
 //! `show`: prints records as a table for people, or as JSON or CSV.
 
 mod circular;
+mod columns;
 mod comma;
 mod detail;
 pub mod facts;
 mod item;
 mod json;
 pub mod layout;
+mod notes;
 mod numbers;
 pub mod pairs;
 pub mod printer;

@@ -2,12 +2,12 @@
 
 use super::axes::{Axes, HEIGHT, LEFT, RIGHT};
 use super::curve::{Curve, Place};
-use super::flight::Flight;
 use super::measure::BOLD;
 use super::room::{Point, Room};
 use super::sheet::{MARGIN, WIDTH};
 use super::svg::{circle, escaped, label, line, rect, text, within, DARK, GREY, RED};
 use super::ticks::{linear, logarithmic};
+use super::time_scale::TimeScale;
 use super::trace::{trace, Trace};
 use std::f64::consts::{FRAC_PI_4, PI};
 
@@ -24,7 +24,7 @@ const PARABOLA: &str = "stroke=\"#555555\" stroke-dasharray=\"2 3\"";
 pub fn graph(curve: &Curve, axes: &Axes, seconds: f64, brackets: &[String]) -> String {
     let frame = [LEFT, axes.top, RIGHT - LEFT, HEIGHT];
     let Trace { path, voids } = trace(&curve.stations, axes);
-    let mut drawn = levels(axes) + &times(axes, &Flight::of(seconds, curve.wanted)) + &places(axes);
+    let mut drawn = levels(axes) + &times(axes, &TimeScale::of(seconds, curve.wanted)) + &places(axes);
     for (from, to) in voids {
         // The mark is one unit wider than the stretch, so that a single void station can be seen.
         drawn += &rect([from - 0.5, axes.top, to - from + 1.0, HEIGHT], &format!("class=\"void\" {VOID}"));
@@ -81,12 +81,12 @@ fn levels(axes: &Axes) -> String {
 }
 
 /// Draws the axis at the right: the same times in a unit of time.
-fn times(axes: &Axes, flight: &Flight) -> String {
+fn times(axes: &Axes, scale: &TimeScale) -> String {
     let (low, high) = axes.levels;
-    let name = format!("time in {}", flight.unit);
+    let name = format!("time in {}", scale.unit);
     let mut drawn = text(WIDTH - MARGIN, axes.top - 9.0, "text-anchor=\"end\"", &name);
-    for (level, label) in logarithmic((low + flight.shift, high + flight.shift)) {
-        let y = axes.down_at(level - flight.shift);
+    for (level, label) in logarithmic((low + scale.shift, high + scale.shift)) {
+        let y = axes.down_at(level - scale.shift);
         let length = if label.is_some() { 5.0 } else { 3.0 };
         drawn += &line([RIGHT, y, RIGHT + length, y], &format!("stroke=\"{GREY}\""));
         if let Some(label) = label {

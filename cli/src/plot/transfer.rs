@@ -9,8 +9,8 @@ mod view;
 
 use super::room::Point;
 use crate::arc::Arc;
+use crate::surface::Surface;
 use crate::wire::{Entry, Outcome, Question};
-use body::Body;
 use path::{Grain, Step};
 use stretch::Stretch;
 use view::View;
@@ -20,7 +20,7 @@ const DOT: f64 = 1.5;
 
 pub struct Transfers {
     flights: Vec<Flown>,
-    body: Option<Body>,
+    body: Option<Surface>,
 }
 
 /// The arc of a transfer, its way from r1 to r2 and, with whole revolutions, the rest of its ellipse from r2 to r1.
@@ -34,7 +34,7 @@ impl Transfers {
     /// Returns the transfers of an answer, or `None` for a refusal.
     pub fn of(question: &Question, outcome: &Outcome, radius: Option<f64>) -> Option<Transfers> {
         let Outcome::Answered(entries) = outcome else { return None };
-        let body = Body::of(question.mu, radius);
+        let body = Surface::of(question.mu, radius);
         let orbits: Vec<(Arc, [Stretch; 2])> = entries.iter().map(|entry| orbit(question, entry)).collect();
         let size = orbits.iter().map(greatest).fold(0.0, f64::max);
         let flown = |(arc, [way, rest]): (Arc, [Stretch; 2])| {
@@ -81,7 +81,7 @@ impl Transfers {
     /// Returns a warning for each transfer that passes below the surface.
     fn warnings(&self) -> impl Iterator<Item = String> + '_ {
         let lowest = self.flights.iter().map(|flown| flown.arc.lowest());
-        lowest.enumerate().filter_map(|(i, lowest)| self.body.as_ref()?.warning(i + 1, lowest))
+        lowest.enumerate().filter_map(|(i, lowest)| body::warning(self.body.as_ref()?, i + 1, lowest))
     }
 
     /// Returns the picture in words: a heading, the body, and what is known about the surface.
@@ -96,10 +96,10 @@ impl Transfers {
             return words;
         };
         let small = body.radius * self.view(0.0).scale < DOT;
-        words.push(body.words(small));
+        words.push(body::words(body, small));
         words.extend(self.warnings());
         if words.len() == 2 {
-            words.push(format!("no transfer passes below the surface of {}", body.name()));
+            words.push(format!("no transfer passes below the surface of {}", body.body()));
         }
         words
     }

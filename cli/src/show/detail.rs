@@ -1,6 +1,6 @@
 //! What `--detail` adds below a row: the question, the bracket, the components of the velocities.
 
-use super::facts::{Facts, Surface};
+use super::facts::Facts;
 use super::item::Transfer;
 use super::numbers::distance;
 use super::pairs::Asked;
@@ -35,8 +35,9 @@ pub fn transfer(transfer: &Transfer) -> Vec<String> {
     ];
     if let Some(Facts { arc, surface, .. }) = facts {
         let surface = match surface {
-            Some(Surface { body, radius, source }) => {
-                format!("{body} has the radius {} km ({source})", number(*radius))
+            Some(surface) => {
+                let (body, radius) = (surface.body(), number(surface.radius));
+                format!("{body} has the radius {radius} km ({})", surface.source)
             }
             None => "the radius of the body is not known, give it with --radius".into(),
         };

@@ -3,33 +3,10 @@
 
 use super::circular;
 use crate::arc::Arc;
-use crate::fields::body_of;
 use crate::propagation;
+use crate::surface::Surface;
 use crate::wire::{Entry, Question};
 use crate::words::number;
-
-/// The surface of the body that a transfer goes round.
-#[derive(Clone, Copy)]
-pub struct Surface {
-    /// The name of the body, if mu is that of a known one.
-    pub body: &'static str,
-    /// In km.
-    pub radius: f64,
-    /// Where the radius comes from.
-    pub source: &'static str,
-}
-
-impl Surface {
-    /// Returns the surface with the given radius or, if none is given, that of the body with this mu.
-    fn of(mu: f64, radius: Option<f64>) -> Option<Surface> {
-        let body = body_of(mu);
-        let name = body.map_or("the body", |body| body.name);
-        match radius {
-            Some(radius) => Some(Surface { body: name, radius, source: "given" }),
-            None => body.map(|body| Surface { body: name, radius: body.radius, source: body.radius_source }),
-        }
-    }
-}
 
 pub struct Facts {
     pub arc: Arc,
@@ -58,16 +35,8 @@ impl Facts {
 
     /// Returns the sentences that have to be known before a transfer is used.
     pub fn warnings(&self) -> Vec<String> {
-        [self.surface_warning(), self.miss_warning()].into_iter().flatten().collect()
-    }
-
-    fn surface_warning(&self) -> Option<String> {
-        let Surface { body, radius, .. } = self.passed()?;
-        Some(format!(
-            "passes below the surface of {body}: lowest {:.1} km from the centre, radius {} km",
-            self.arc.lowest(),
-            number(radius)
-        ))
+        let surface = self.surface.and_then(|surface| surface.warning(self.arc.lowest()));
+        [surface, self.miss_warning()].into_iter().flatten().collect()
     }
 
     fn miss_warning(&self) -> Option<String> {

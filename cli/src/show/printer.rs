@@ -1,8 +1,9 @@
 //! Prints records one after the other, in one of the forms, and counts them for the summary of the table.
 
 use super::item::Item;
+use super::notes::notes;
 use super::pairs::Asked;
-use super::table::{self, Names, Table};
+use super::table::{Names, Table};
 use super::view::{Form, View};
 use super::{comma, json};
 use crate::terminal::Mark;
@@ -64,7 +65,7 @@ impl Printer {
     pub fn foot(&self) -> String {
         match self.view.form {
             Form::Table if self.tally.transfers == 0 => self.summary(),
-            Form::Table => self.summary() + &table::notes(self.with_questions, &self.view),
+            Form::Table => self.summary() + &notes(self.with_questions, &self.view),
             _ => String::new(),
         }
     }

@@ -1,17 +1,15 @@
 //! Records as a table for people: a line for each transfer or refusal, what has to be known about it below, and a
 //! summary at the end.
 
+use super::columns::{cells, columns};
 use super::facts::Facts;
 use super::item::{Item, Transfer};
-use super::layout::{number, words, Column, Layout};
-use super::numbers::{distance, miss, speed};
+use super::layout::{number, words, Layout};
 use super::pairs::Asked;
 use super::view::View;
 use super::{detail, refused};
-use crate::orbit::kind;
 use crate::refusal;
 use crate::terminal::Mark;
-use crate::vectors::size;
 use crate::wire::{Outcome, Question, Record};
 use crate::words::wrapped;
 
@@ -34,7 +32,7 @@ impl Table {
             Names::JobAndRevision => vec![number("job", 6), number("revision", 8)],
             Names::WayAndRevolutions => vec![words("way", 5), number("revolutions", 11)],
         };
-        columns.extend(self::columns(with_questions));
+        columns.extend(super::columns::columns(with_questions));
         Table { names, layout: Layout::new(columns, 2, view.columns) }
     }
 
@@ -106,52 +104,6 @@ impl Table {
         let lines = sentences.iter().flat_map(|sentence| wrapped(sentence, width - 2, "  "));
         lines.map(|line| format!("{indent}{line}\n")).collect()
     }
-}
-
-/// Returns the columns of a transfer.
-fn columns(with_questions: bool) -> Vec<Column> {
-    let mut columns = vec![words("transfer", 8), words("orbit", 9)];
-    if with_questions {
-        columns.extend([number("perigee km", 10), number("apogee km", 10), number("incl deg", 8)]);
-    }
-    columns.extend([number("v1 km/s", 8), number("v2 km/s", 8)]);
-    if with_questions {
-        columns.extend([number("dv1 km/s", 8), number("dv2 km/s", 8), number("miss m", 7)]);
-    }
-    columns
-}
-
-/// Returns the cells of a transfer in these columns.
-fn cells(transfer: &Transfer) -> Vec<String> {
-    let Transfer { entry, number, count, facts } = *transfer;
-    let mut cells = vec![format!("{number} of {count}"), kind(entry).into()];
-    if let Some(Facts { arc, .. }) = facts {
-        cells.extend([distance(arc.perigee), arc.apogee.map_or("-".into(), distance)]);
-        cells.push(format!("{:.3}", arc.inclination));
-    }
-    cells.extend([entry.v1, entry.v2].map(|v| speed(size(v))));
-    if let Some(facts) = facts {
-        cells.extend(facts.changes.map(speed));
-        cells.push(miss(facts.miss));
-    }
-    cells
-}
-
-/// Returns what has to be known of the columns, after the last row.
-pub fn notes(with_questions: bool, view: &View) -> String {
-    let notes: &[&str] = if with_questions {
-        &[
-            "perigee and apogee are distances from the centre. dv1 and dv2 are the velocity changes from and to a \
-             circular orbit through r1 and r2 in the transfer's own plane and direction: a circular orbit in another \
-             plane or direction needs a larger change. miss is the distance from r2 at arrival, by propagation. All this, \
-             the inclination and the warnings are computed for this table: they are tested, not proved.",
-        ]
-    } else {
-        &["perigee, apogee, inclination, velocity changes, the miss at r2 and warnings need the questions: \
-           --questions FILE"]
-    };
-    let lines = notes.iter().flat_map(|note| wrapped(note, view.width(), ""));
-    lines.map(|line| line + "\n").collect()
 }
 
 /// Returns the transfers of an answer as lines, without job and revision. The first line is the header.

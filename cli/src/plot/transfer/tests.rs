@@ -90,8 +90,9 @@ fn what_is_below_the_surface_is_red_and_told() {
     };
     let (red, words) = told(None);
     assert_eq!(red, 1);
-    assert!(words
-        .ends_with("passes below the surface of earth: lowest 4938 km from the centre, radius 6378.137 km"));
+    assert!(words.ends_with(
+        "passes below the surface of earth: lowest 4937.9 km from the centre, radius 6378.137 km"
+    ));
     let (red, words) = told(Some(4_900.0));
     assert_eq!(red, 0);
     assert!(words.ends_with("The disc is the body at the centre: earth, radius 4900 km no transfer passes below the surface of earth"));

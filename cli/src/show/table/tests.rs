@@ -1,3 +1,4 @@
+use super::super::notes::notes;
 use super::super::view::Form;
 use super::*;
 use crate::proved::record_of;

@@ -8,18 +8,18 @@ const UNITS: [(&str, f64, f64); 4] = [
     ("seconds", 1.0, 0.0),
 ];
 
-pub struct Flight {
+pub struct TimeScale {
     pub unit: &'static str,
     /// What is added to the common logarithm of T to get that of the time of flight.
     pub shift: f64,
 }
 
-impl Flight {
+impl TimeScale {
     /// Returns the scale for a question with this time in seconds and this wanted time.
-    pub fn of(seconds: f64, wanted: f64) -> Flight {
+    pub fn of(seconds: f64, wanted: f64) -> TimeScale {
         let suits = |(_, _, least): &&(&str, f64, f64)| seconds >= *least;
         let (unit, size, _) = UNITS.iter().find(suits).unwrap_or(&UNITS[3]);
-        Flight { unit, shift: (seconds / size).log10() - wanted.log10() }
+        TimeScale { unit, shift: (seconds / size).log10() - wanted.log10() }
     }
 }
 
@@ -36,9 +36,9 @@ mod tests {
             (302_400.0, "days", 3.5),
         ] {
             for wanted in [1e-18, 0.3, 14.0, 1e20] {
-                let flight = Flight::of(seconds, wanted);
-                assert_eq!(flight.unit, unit);
-                assert!((10f64.powf(wanted.log10() + flight.shift) / count - 1.0).abs() < 1e-12);
+                let scale = TimeScale::of(seconds, wanted);
+                assert_eq!(scale.unit, unit);
+                assert!((10f64.powf(wanted.log10() + scale.shift) / count - 1.0).abs() < 1e-12);
             }
         }
     }
