@@ -32,7 +32,7 @@ pub fn run(words: &[String]) -> Result<u8, Stop> {
     let view = View::read(&options)?;
     let questions = questions(&options)?;
     let mut output = Output::open(options.value("-o"), &[])?;
-    let table = view.form == Form::Table;
+    let (table, width) = (view.form == Form::Table, view.width());
     if table {
         output.put(heading(&questions[0], &view).as_bytes())?;
     }
@@ -47,7 +47,7 @@ pub fn run(words: &[String]) -> Result<u8, Stop> {
     output.put(printer.foot().as_bytes())?;
     if options.value("--revolutions").is_some_and(|text| text.trim() == "all") && pairs.iter().any(is_last) {
         match table {
-            true => output.put(format!("{MORE_REVOLUTIONS}\n").as_bytes())?,
+            true => output.put((wrapped(MORE_REVOLUTIONS, width, "").join("\n") + "\n").as_bytes())?,
             false => tell(MORE_REVOLUTIONS),
         }
     }
@@ -56,7 +56,7 @@ pub fn run(words: &[String]) -> Result<u8, Stop> {
 }
 
 const MORE_REVOLUTIONS: &str =
-    "only 0 to 16 whole revolutions can be asked for; transfers with more are possible in this time";
+    "only 0 to 16 whole revolutions can be asked for; transfers with more may be possible in this time";
 
 /// Reports whether a question has the most whole revolutions and an answer. Then more of them may be possible in its time.
 fn is_last((question, record): &(Question, Record)) -> bool {
