@@ -1,7 +1,7 @@
 //! The arc of a transfer from r1 to r2, as two-body motion gives it from r1 and v1. This is for display: it is tested, not proved.
 
 use crate::orbit::kind;
-use crate::propagation::inverse_axis;
+use crate::propagation::radius_over_axis;
 use crate::vectors::{cross, dot, size};
 use crate::wire::{Entry, Question};
 use std::f64::consts::TAU;
@@ -82,7 +82,7 @@ impl Arc {
 /// Returns half the length of an ellipse in km, or `None` if the orbit is not an ellipse or if v1 is too close to the speed of a
 /// parabola for an f64 to tell.
 fn semimajor_axis(question: &Question, entry: &Entry) -> Option<f64> {
-    let a = size(question.r1) / inverse_axis(question.mu, question.r1, entry.v1);
+    let a = size(question.r1) / radius_over_axis(question.mu, question.r1, entry.v1);
     Some(a).filter(|a| kind(entry) == "ellipse" && a.is_finite() && *a > 0.0)
 }
 

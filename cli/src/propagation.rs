@@ -22,7 +22,7 @@ pub fn miss(question: &Question, entry: &Entry) -> Option<f64> {
 /// Returns the position a time after the position `r` and the velocity `v`, in km, or `None` if a number is not finite or the search
 /// does not converge.
 pub fn position_after(mu: f64, r: [f64; 3], v: [f64; 3], time: f64) -> Option<[f64; 3]> {
-    let alpha = inverse_axis(mu, r, v);
+    let alpha = radius_over_axis(mu, r, v);
     // Lengths are divided by |r|, and speeds by the speed of the circular orbit there. Then mu is 1 and the first radius is 1.
     let radius = size(r);
     let circular = (mu / radius).sqrt();
@@ -87,7 +87,7 @@ impl Orbit {
 
 /// Returns |r| divided by the semimajor axis: 2 − |r|·v²/mu. The product is computed with twice the digits, because on a long ellipse
 /// the difference is small, and the flight time and the apogee depend on it.
-pub fn inverse_axis(mu: f64, r: [f64; 3], v: [f64; 3]) -> f64 {
+pub fn radius_over_axis(mu: f64, r: [f64; 3], v: [f64; 3]) -> f64 {
     let (radius_square, radius_rest) = square(r);
     let (speed_square, speed_rest) = square(v);
     let radius = radius_square.sqrt();

@@ -98,10 +98,10 @@ fn a_small_energy_keeps_its_digits() {
     let step = 2f64.powi(-27);
     let mu = (1.0 + 6.0 * step) / 2.0 + 2f64.powi(-40);
     let expected = (2f64.powi(-39) - 9.0 * step * step) / mu;
-    let found = inverse_axis(mu, [1.0, 0.0, 0.0], [0.0, 1.0 + 3.0 * step, 0.0]);
+    let found = radius_over_axis(mu, [1.0, 0.0, 0.0], [0.0, 1.0 + 3.0 * step, 0.0]);
     assert!((found / expected - 1.0).abs() < 1e-15, "{found}, not {expected}");
     let root = 3f64.sqrt();
-    let found = inverse_axis(root / 2.0, [1.0; 3], [0.0, 0.0, 1.0]);
+    let found = radius_over_axis(root / 2.0, [1.0; 3], [0.0, 0.0, 1.0]);
     // The root of 3 is larger than the f64 nearest to it by 1.00350842e-16.
     assert!((found * root / 2.0 + 1.003_508_42e-16).abs() < 1e-24, "{found}");
 }
