@@ -12,7 +12,7 @@ use lib.Ieee.Bits.{is-true, ofBits-toBits, toBits-lt}
 use Rattle.float64.specs.Notation.{_≺_, _≈_, 0F}
 use Rattle.float64.specs.Value.{finiteOf}
 use Rattle.float64.specs.Root.{rootOf, rootOfUnits}
-use Rattle.float64.specs.Internals.{unitsAt, unitsOfBits}
+use Rattle.float64.specs.Internals.{unitsAt, unitsOfBits, Positive}
 use Rattle.float64.specs.declared.Root.the-variants.{Value, Refused}
 use Rattle.float64.proofs.Comparisons.{zero-is-zero, zero-not-above, some-not-zero, some-above}
 use Rattle.float64.proofs.Patterns.{rootOf-positive, rootOf-negative, ofBits-is, clear, fields-units}
@@ -36,9 +36,6 @@ of-refused (fin true (suc m) d) e l = refl
 of-refused (fin false (suc m) d) e l = absurd (true≢false (sym (ap (λ (b : Bool). b && true) (some-above false m d)) ∙ l))
 
 -- ---- a positive finite number
-abbrev pub Positive : Float → Type 0
-Positive x = (0F ≺ x) && finiteOf x ≡ true
-
 pub no-nan : (x : Float) → Positive x → T (not (isNan x))
 unfolding isNan finiteOf lt ofBits
 no-nan nan l = absurd (false≢true l)
@@ -119,3 +116,10 @@ of-positive x r h p l e =
     let b = toBits binary64 x in
     ap Value e ∙ sym (rootOf-positive (ofBits binary64 b) (unitsOfBits b) (unitsOfBits-pos b p) (has-units b l))
     ∙ ap rootOf (ofBits-toBits binary64 x h)
+
+-- A number whose bits are those of the root of a positive finite x.
+pub of-bits : (x r : Float) → Positive x → T (fits binary64 x) → T (fits binary64 r)
+    → ofBits binary64 (toBits binary64 r) ≡ rootOfUnits (unitsOfBits (toBits binary64 x)) → Value r ≡ rootOf x
+of-bits x r p h g e =
+    let b = positive-bits x p h in
+    of-positive x r h (b .0) (b .1) (sym (ofBits-toBits binary64 r g) ∙ e)

@@ -9,6 +9,8 @@ mod Trials
 mod Rounds
 mod Normalising
 mod Assembly
+mod ExactTest
 mod Cases
+mod Range
 pub mod Grid
 pub mod Law

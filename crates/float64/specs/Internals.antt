@@ -1,8 +1,11 @@
 -- The definitions that the contracts of the square root's private functions cite.
 -- Definitions only; no public contract cites them.
 use mathlib.Core.Path.{_≡_}
+use mathlib.Core.Bool.{true, cond, _&&_}
 use Prim.Native.Nat.{ℕ, zero, suc, _+_, _*_, _/_, _%_, _^_, _≤_, _<_}
-use lib.Ieee.{size}
+use lib.Ieee.{Float, size}
+use Rattle.float64.specs.Notation.{_≺_, 0F, bits}
+use Rattle.float64.specs.Value.{finiteOf}
 use Rattle.float64.specs.Root.{halfLength}
 
 -- The bit pattern of +∞. The positive finite f64s are those with patterns above 0 and below this one.
@@ -26,7 +29,8 @@ pub record Normalised (n s z : ℕ) : Type 0 where
   pub low : 2 ^ 52 ≤ s
   pub high : s < 2 ^ 53
 
--- a * 2 ^ 54 is exactly n * 4 ^ 54 / 4 ^ k, where k is half of n's length in binary digits, rounded up.
+-- a * 2 ^ 54 is exactly n * 4 ^ 54 / 4 ^ k, where k is half of n's length in binary digits, rounded up. The bounds of a are those for
+-- which the rounded root has 53 binary digits.
 pub record Scaled (n a k : ℕ) : Type 0 where
   pub is-half : halfLength n ≡ k
   pub exact : n * 4 ^ 54 ≡ a * 2 ^ 54 * 4 ^ k
@@ -37,3 +41,23 @@ pub record Scaled (n a k : ℕ) : Type 0 where
 pub data Chosen (y t u v : ℕ) : ℕ → Type 0 where
   below : y < t → Chosen y t u v u
   above : t ≤ y → Chosen y t u v v
+
+-- ---- the estimated root
+-- x is above zero and finite.
+abbrev pub Positive : Float → Type 0
+Positive x = (0F ≺ x) && finiteOf x ≡ true
+
+-- Roots are estimated only for numbers strictly between these two ends, 2 ^ -960 and 2 ^ 960.
+abbrev pub lowEnd : Float
+lowEnd = bits 0x03F0_0000_0000_0000
+
+abbrev pub highEnd : Float
+highEnd = bits 0x7BF0_0000_0000_0000
+
+-- x is strictly between the ends.
+abbrev pub Inside : Float → Type 0
+Inside x = (lowEnd ≺ x) && (x ≺ highEnd) ≡ true
+
+-- The lesser of x and `highEnd`, or `highEnd` for a NaN.
+unfoldable pub atMostHighEnd : Float → Float
+atMostHighEnd x = cond (x ≺ highEnd) x highEnd

@@ -7,11 +7,17 @@ ghost use Rattle.float64.specs.Internals.{infinityBits, unitsOfBits};
 
 mod bit_patterns;
 mod digits;
+mod estimate;
+mod exact_test;
 mod operand;
 mod value;
 
 use bit_patterns::LEADING_DIGIT;
 use digits::floor_root;
+use estimate::HIGH_END;
+use estimate::LOW_END;
+use estimate::estimated_root;
+use exact_test::is_root;
 use operand::operand_of;
 pub use value::from_bits;
 pub use value::is_finite;
@@ -32,9 +38,23 @@ pub enum Root {
     Refused,
 }
 
-// Returns the f64 nearest to the square root of x, computed in whole numbers. The root of a zero is that same zero, with its
-// sign. A number below zero, an infinity and a NaN are refused.
+// Returns the f64 nearest to the square root of x. The root of a zero is that same zero, with its sign. A number below zero, an
+// infinity and a NaN are refused. The root is estimated in f64, and the estimate is tested exactly. If it is not the root, or
+// if x is too small or too large for an estimate, the root is computed digit by digit.
 pub fn square_root(x: f64) -> Root
+    ensures { λ r. ⌜ r ≡ rootOf x ⌝ }
+{
+    if (LOW_END < x) & (x < HIGH_END) {
+        let root = estimated_root(x);
+        if is_root(x, root) {
+            return Root::Value(root);
+        }
+    }
+    root_by_digits(x)
+}
+
+// Returns what `square_root` returns, computed in whole numbers.
+fn root_by_digits(x: f64) -> Root
     ensures { λ r. ⌜ r ≡ rootOf x ⌝ }
 {
     if x == 0.0 {
@@ -48,7 +68,8 @@ pub fn square_root(x: f64) -> Root
 }
 
 // Returns the square root of the positive finite f64 with the bit pattern b. The 54 binary digits of the root are rounded to
-// 53, and the last of these counts 2^(k + 484) units of 2^-1074. The leading digit adds one to the exponent field.
+// 53, and the last of these counts 2^(k + 484) units of 2^-1074. The exponent field is set to k + 484, and the leading digit
+// adds one to it.
 fn positive_root(b: u64) -> f64
     requires { ⌜ (0 < b) × (b < infinityBits) ⌝ }
     ensures { λ r. ⌜ r ≡ rootOfUnits (unitsOfBits b) ⌝ }
