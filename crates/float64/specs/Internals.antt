@@ -6,7 +6,8 @@ use Prim.Native.Nat.{ℕ, zero, suc, _+_, _*_, _/_, _%_, _^_, _≤_, _<_}
 use lib.Ieee.{Float, size}
 use Rattle.float64.specs.Notation.{_≺_, 0F, bits}
 use Rattle.float64.specs.Value.{finiteOf}
-use Rattle.float64.specs.Root.{halfLength}
+use Rattle.float64.specs.Root.{halfLength, rootOf}
+use Rattle.float64.specs.declared.Root.the-variants.{Value}
 
 -- The bit pattern of +∞. The positive finite f64s are those with patterns above 0 and below this one.
 abbrev pub infinityBits : ℕ
@@ -61,3 +62,16 @@ Inside x = (lowEnd ≺ x) && (x ≺ highEnd) ≡ true
 -- The lesser of x and `highEnd`, or `highEnd` for a NaN.
 unfoldable pub atMostHighEnd : Float → Float
 atMostHighEnd x = cond (x ≺ highEnd) x highEnd
+
+-- x, or the nearer end if x is not strictly between the ends, or `highEnd` for a NaN.
+unfoldable pub clampedOf : Float → Float
+unfolding atMostHighEnd
+clampedOf x = cond (lowEnd ≺ atMostHighEnd x) (atMostHighEnd x) lowEnd
+
+-- 0 if x is strictly between the ends, and 1 otherwise.
+unfoldable pub outsideOf : Float → ℕ
+outsideOf x = cond ((lowEnd ≺ x) && (x ≺ highEnd)) 0 1
+
+-- r is above zero only if it is the root of x.
+abbrev pub RootIfPositive : Float → Float → Type 0
+RootIfPositive r x = (0F ≺ r) ≡ true → Value r ≡ rootOf x

@@ -1,5 +1,5 @@
-// The operations on f64 that the later layers share: the square root (01, Root), the magnitude, the test for finite numbers,
-// and the conversions between an f64 and its 64 bits. Each public function accepts any f64 or any 64 bits.
+// The operations on f64 that the later layers share: the square root (01, Root), four square roots side by side, the magnitude,
+// the test for finite numbers, and the conversions between an f64 and its 64 bits. Each public function accepts any f64 or any 64 bits.
 ghost use mathlib.Core.Path.{_≡_};
 ghost use Prim.Native.Nat.{_<_};
 ghost use Rattle.float64.specs.Root.{rootOf, rootOfUnits};
@@ -10,6 +10,7 @@ mod digits;
 mod estimate;
 mod exact_test;
 mod operand;
+mod side_by_side;
 mod value;
 
 use bit_patterns::LEADING_DIGIT;
@@ -19,6 +20,9 @@ use estimate::LOW_END;
 use estimate::estimated_root;
 use exact_test::is_root;
 use operand::operand_of;
+pub use side_by_side::Four;
+pub use side_by_side::FourRoots;
+pub use side_by_side::four_roots;
 pub use value::from_bits;
 pub use value::is_finite;
 pub use value::magnitude;
