@@ -1,1 +1,2 @@
 pub mod RootBits
+pub mod FourNumbers
