@@ -1,8 +1,9 @@
 //! Times the proved code of an earlier commit, that of today, and the hardware or the reference, in one run on the same operands.
 
 use crate::questions::{self, COUNT, PROVED, REFERENCE, SORTS};
+use crate::roots::{hardware, positive};
 use crate::sweeps::{self, Sweep};
-use crate::{hardware, positive, proved, reference_bits, timed_places, timing};
+use crate::{proved, reference_bits, timed_places, timing};
 use reference::places::Place;
 use std::io;
 use std::path::Path;

@@ -6,12 +6,13 @@ mod opms;
 mod posts;
 mod proved;
 mod questions;
+mod roots;
 mod sweeps;
 mod timing;
 
 use reference::places::{places, Place};
 use reference::random::Random;
-use reference::{root, time};
+use reference::time;
 use std::process::ExitCode;
 
 const USAGE: &str = "usage: bench time|compare|questions|before
@@ -28,7 +29,7 @@ const VOID: u64 = u64::MAX;
 fn main() -> ExitCode {
     match std::env::args().skip(1).collect::<Vec<_>>().join(" ").as_str() {
         "time" => {
-            let root = time_roots();
+            let root = roots::time();
             time_places(root);
             sweeps::time();
             posts::time();
@@ -36,7 +37,7 @@ fn main() -> ExitCode {
             ExitCode::SUCCESS
         }
         "compare"
-            if compare_roots(2_000_000)
+            if roots::compare(2_000_000)
                 && compare_places(1_000_000)
                 && sweeps::compare(500)
                 && posts::compare(20_000)
@@ -72,23 +73,6 @@ fn report(what: &str, count: usize, [ours, theirs]: [f64; 2], (unit, other): (&s
     println!("  ratio      {:8.1}", ours / theirs);
 }
 
-/// Returns the positive operands of the test vectors.
-fn positive() -> Vec<u64> {
-    root::operands().into_iter().filter(|&b| b != 0 && root::root_bits(b) != root::REFUSED).collect()
-}
-
-fn hardware(b: u64) -> u64 {
-    f64::from_bits(b).sqrt().to_bits()
-}
-
-/// Times the square root. Returns the nanoseconds of a proved root.
-fn time_roots() -> f64 {
-    let positive = positive();
-    let times = timing::nanoseconds(&positive, [&proved::root_bits, &hardware]);
-    report("square root", positive.len(), times, ("ns", "hardware"));
-    times[0]
-}
-
 fn reference_bits(p: Place) -> u64 {
     time::time_at(f64::from_bits(p.lambda), p.k, p.m).map_or(VOID, f64::to_bits)
 }
@@ -109,21 +93,6 @@ fn time_places(root: f64) {
         "  the roots  {:8.0} % of the proved time ({roots:.1} a place)",
         100.0 * roots * root / times[0]
     );
-}
-
-/// Compares square roots of random bits. Half of the operands have the sign bit cleared, since the root of a negative one is refused.
-fn compare_roots(count: u64) -> bool {
-    let mut random = Random::new(7);
-    for i in 0..count {
-        let b = random.word() >> (i % 2);
-        let (ours, theirs) = (proved::root_bits(b), root::root_bits(b));
-        if ours != theirs {
-            println!("root of {b:016x}: proved {ours:016x}, hardware {theirs:016x}");
-            return false;
-        }
-    }
-    println!("square root: {count} operands, every bit equal");
-    true
 }
 
 /// Compares times for lambdas in (-1, 1) at places over the whole range and a little beyond it.
