@@ -2,6 +2,8 @@
 
 #[cfg(feature = "before")]
 mod before;
+mod estimates;
+mod operands;
 mod opms;
 mod posts;
 mod proved;
@@ -17,9 +19,11 @@ use std::process::ExitCode;
 
 const USAGE: &str = "usage: bench time|compare|questions|before
   time      how long each call of the proved code and of the reference takes, and the ratio: roots, places,
-            sweeps, posts, and orbit messages that are written and read
-  compare   the proved code against the reference on two million roots, one million places, 500 sweeps,
-            20,000 posts, 16,000 calls that write an orbit message and 34,000 that read one, all of them random
+            sweeps, posts, and orbit messages that are written and read; and the share of the estimated roots that
+            the exact test does not accept
+  compare   the proved code against the reference on two million roots, the exact test of two million estimated
+            roots, one million places, 500 sweeps, 20,000 posts, 16,000 calls that write an orbit message and 34,000
+            that read one, all of them random
   questions how many whole questions a second the proved program and the reference answer, and its memory
   before    the proved code of an earlier commit beside today's, on the same operands (bench/run before COMMIT)";
 
@@ -30,6 +34,7 @@ fn main() -> ExitCode {
     match std::env::args().skip(1).collect::<Vec<_>>().join(" ").as_str() {
         "time" => {
             let root = roots::time();
+            estimates::print_shares();
             time_places(root);
             sweeps::time();
             posts::time();
@@ -38,6 +43,7 @@ fn main() -> ExitCode {
         }
         "compare"
             if roots::compare(2_000_000)
+                && estimates::check(1_000_000)
                 && compare_places(1_000_000)
                 && sweeps::compare(500)
                 && posts::compare(20_000)
