@@ -8,8 +8,11 @@ mod shares;
 pub use check::check;
 pub use shares::print_shares;
 
+use crate::operands::ordinary;
+use reference::random::Random;
 use source::estimate::{estimated_root, HIGH_END, LOW_END};
 use source::exact_test::is_root;
+use std::iter::repeat_with;
 
 /// The files of the crate float64, as build.rs reads them.
 #[allow(dead_code, clippy::all)]
@@ -31,11 +34,18 @@ fn is_estimated(x: f64) -> bool {
 }
 
 /// Reports whether the root of x is estimated and the exact test does not accept the estimate.
-fn fails(x: f64) -> bool {
+pub fn fails(x: f64) -> bool {
     is_estimated(x) && !is_root(x, estimated_root(x))
 }
 
+/// Returns `count` ordinary numbers whose estimate fails. It tries at most 100,000 numbers for each of them, and
+/// returns fewer if that is not enough.
+pub fn failing(count: usize, random: &mut Random) -> Vec<u64> {
+    let tries = 100_000 * count;
+    repeat_with(|| ordinary(random)).take(tries).filter(|&b| fails(f64::from_bits(b))).take(count).collect()
+}
+
 /// The bits of the two ends between which roots are estimated.
-fn ends() -> [u64; 2] {
+pub fn ends() -> [u64; 2] {
     [LOW_END, HIGH_END].map(f64::to_bits)
 }

@@ -18,12 +18,14 @@ use reference::time;
 use std::process::ExitCode;
 
 const USAGE: &str = "usage: bench time|compare|questions|before
-  time      how long each call of the proved code and of the reference takes, and the ratio: roots, places,
-            sweeps, posts, and orbit messages that are written and read; and the share of the estimated roots that
-            the exact test does not accept
-  compare   the proved code against the reference on two million roots, the exact test of two million estimated
-            roots, one million places, 500 sweeps, 20,000 posts, 16,000 calls that write an orbit message and 34,000
-            that read one, all of them random
+  time      how long each call of the proved code and of the reference takes, and the ratio: roots (alone, in a
+            row, and four at a time), places, sweeps, posts, and orbit messages that are written and read; and the
+            share of the estimated roots that the exact test does not accept
+  compare   the proved code against the reference: two million random roots; 13 million roots of subnormals, of
+            squares, of numbers near squares of middles, of numbers around the ends of ranges, and of numbers
+            whose estimate fails; 500,000 calls for four roots; the exact test of two million estimates; one
+            million places, 500 sweeps, 20,000 posts, 16,000 calls that write an orbit message and 34,000 that
+            read one
   questions how many whole questions a second the proved program and the reference answer, and its memory
   before    the proved code of an earlier commit beside today's, on the same operands (bench/run before COMMIT)";
 
@@ -42,7 +44,7 @@ fn main() -> ExitCode {
             ExitCode::SUCCESS
         }
         "compare"
-            if roots::compare(2_000_000)
+            if roots::compare(2_000_000, 500_000)
                 && estimates::check(1_000_000)
                 && compare_places(1_000_000)
                 && sweeps::compare(500)
@@ -88,7 +90,8 @@ fn timed_places() -> Vec<Place> {
     places().into_iter().filter(|&p| reference_bits(p) != VOID).collect()
 }
 
-/// Times the places. The time at a place takes four square roots, and a fifth if there are whole revolutions. `root` is the time of one.
+/// Times the places. The time at a place takes four square roots, one after the other, and a fifth if there are whole
+/// revolutions. `root` is the time of one root in a row.
 fn time_places(root: f64) {
     let timed = timed_places();
     let roots = timed.iter().map(|p| 4 + u64::from(p.m > 0)).sum::<u64>() as f64 / timed.len() as f64;
@@ -96,7 +99,7 @@ fn time_places(root: f64) {
         timing::nanoseconds(&timed, [&|p: Place| proved::time_bits(p.lambda, p.k, p.m), &reference_bits]);
     report("time at a place", timed.len(), times, ("ns", "reference"));
     println!(
-        "  the roots  {:8.0} % of the proved time ({roots:.1} a place)",
+        "  the roots  {:8.0} % of the proved time ({roots:.1} a place, each timed in a row)",
         100.0 * roots * root / times[0]
     );
 }

@@ -2,6 +2,7 @@
 
 extern "C" {
     fn lambert_root_bits(b: u64) -> u64;
+    fn lambert_four_roots(numbers: *mut f64) -> bool;
     fn lambert_time_bits(b: u64, k: i64, m: u16) -> u64;
     fn lambert_sweep_number(b: u64, m: u16, w: u64) -> u64;
     fn lambert_post(board: *mut u8, board_size: usize, record: *const u8, size: usize) -> u8;
@@ -24,6 +25,14 @@ extern "C" {
 pub fn root_bits(b: u64) -> u64 {
     // SAFETY: the function takes and returns a number and has no precondition.
     unsafe { lambert_root_bits(b) }
+}
+
+/// Replaces four numbers by their square roots and returns true. If one of them has no root, it changes nothing and
+/// returns false.
+pub fn four_roots(numbers: &mut [f64; 4]) -> bool {
+    // SAFETY: the pointer is to four numbers that live until the call returns. The function reads and writes only
+    // these, does not keep the pointer, returns 0 or 1 and has no precondition.
+    unsafe { lambert_four_roots(numbers.as_mut_ptr()) }
 }
 
 /// Returns the bits of the time at the place `k` with `m` whole revolutions, for the lambda with the bits `b`,
