@@ -16,7 +16,7 @@ use lib.Ieee.Positive.{positive, positive-of-value, values-of-le}
 use Rattle.float64.specs.Notation.{_≺_}
 use Rattle.float64.specs.Value.{finiteOf}
 use Rattle.float64.specs.Internals.{unitsAt, unitsOfBits, Positive, Inside, lowEnd, highEnd, atMostHighEnd, clampedOf, outsideOf}
-use Rattle.float64.proofs.Comparisons.{some-above}
+use Rattle.float64.proofs.Comparisons.{some-above, both}
 use Rattle.float64.proofs.Patterns.{has-units, unitsOfBits-pos}
 use Rattle.float64.proofs.Bits.{read-back, written-back}
 use Rattle.float64.proofs.Cases.{positive-bits}
@@ -48,10 +48,6 @@ above-low false zero e h = absurd (none _ (up e) _ (ltb-true _ _ h))
     none : (a u d : ℕ) → a < 0 * u * d → ⊥
     none a u d g = omega (arith, zero-mul u, zero-mul d)
 above-low false (suc m) e h = ap (λ (b : Bool). b && true) (some-above false m e)
-
-both : (p q : Bool) → p && q ≡ true → (p ≡ true) × (q ≡ true)
-both true q h = (refl, h)
-both false q h = absurd (false≢true h)
 
 -- ---- between the ends
 pub inside-positive : (x : Float) → Inside x → Positive x

@@ -15,7 +15,6 @@ ifRoot Refused next = SomeRefused
 -- The roots of the four numbers of x, if each of them has a root. If one of them has none, the result does not have the other roots
 -- either. This is our own choice.
 unfoldable pub fourRootsOf : Four → FourRoots
-unfolding rootOf
 fourRootsOf x =
     ifRoot (rootOf (x .a)) (λ a.
     ifRoot (rootOf (x .b)) (λ b.
