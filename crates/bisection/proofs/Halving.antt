@@ -25,22 +25,22 @@ same-side Below Below p q r = refl
 same-side NotBelow NotBelow p q r = refl
 same-side Below NotBelow p q r = cc
 same-side NotBelow Below p q r = cc
-same-side Unknown b p q r = cc
-same-side Below Unknown p q r = cc
-same-side NotBelow Unknown p q r = cc
+same-side (Unknown reason) b p q r = cc
+same-side Below (Unknown reason) p q r = cc
+same-side NotBelow (Unknown reason) p q r = cc
 
 -- Opposite sides are both known: both ends of a crossing have times.
 pub lower-known : (a b : Side) → opposite a b ≡ true → isUnknown a ≡ false
 lower-known Below b e = refl
 lower-known NotBelow b e = refl
-lower-known Unknown b e = cc
+lower-known (Unknown reason) b e = cc
 
 pub upper-known : (a b : Side) → opposite a b ≡ true → isUnknown b ≡ false
 upper-known a Below e = refl
 upper-known a NotBelow e = refl
-upper-known Below Unknown e = cc
-upper-known NotBelow Unknown e = cc
-upper-known Unknown Unknown e = cc
+upper-known Below (Unknown reason) e = cc
+upper-known NotBelow (Unknown reason) e = cc
+upper-known (Unknown reason) (Unknown other) e = cc
 
 -- ---- whole numbers
 

@@ -8,13 +8,16 @@ mod revolutions;
 
 use geometry::Triangle;
 use hypergeometric::HalfAngles;
+use hypergeometric::Reason;
 use hypergeometric::StepValue;
+use hypergeometric::reason_number;
 use revolutions::with_revolutions;
 
-// The result at one place: a time, which is a finite number, or void.
+// The result at one place: a time, which is a finite number, or void. A void place carries the
+// reason why it has no time.
 pub enum Place {
     Timed(f64),
-    Void,
+    Void(Reason),
 }
 
 impl Place {
@@ -44,34 +47,37 @@ pub fn time_at(triangle: Triangle, k: i64, revolutions: u16) -> Place
 {
     let l = triangle.lambda;
     if is_outside(l, k, revolutions) {
-        return Place::Void;
+        return Place::Void(Reason::OutsideRange);
     }
     let x = x_at(k);
     let u = u_at(x);
-    let HalfAngles::Known(angles) = hypergeometric::half_angles(l, x, u) else {
-        return Place::Void;
+    let angles = match hypergeometric::half_angles(l, x, u) {
+        HalfAngles::Known(angles) => angles,
+        HalfAngles::Void(reason) => return Place::Void(reason),
     };
-    let StepValue::Number(g) = hypergeometric::g_at(angles) else {
-        return Place::Void;
+    let g = match hypergeometric::g_at(angles) {
+        StepValue::Number(g) => g,
+        StepValue::Void(reason) => return Place::Void(reason),
     };
-    let StepValue::Number(time) = with_revolutions(direct(l, angles.eta, g), u, revolutions) else {
-        return Place::Void;
+    let time = match with_revolutions(direct(l, angles.eta, g), u, revolutions) {
+        StepValue::Number(time) => time,
+        StepValue::Void(reason) => return Place::Void(reason),
     };
     if float64::is_finite(time) {
         Place::Timed(time)
     } else {
-        Place::Void
+        Place::Void(Reason::NotFinite)
     }
 }
 
-// Returns the bits of a place's time, or all ones if the place is void. All ones is the pattern of
-// a NaN, and `time_at` never returns a NaN as a time.
+// Returns the bits of a place's time. For a void place it returns the bits of a NaN: those of the
+// first quiet NaN plus the number of the reason. `time_at` never returns a NaN as a time.
 pub fn place_bits(place: Place) -> u64
     ensures { λ r. ⌜ r ≡ placeBits place ⌝ }
 {
     match place {
         Place::Timed(time) => float64::to_bits(time),
-        Place::Void => 0xFFFF_FFFF_FFFF_FFFF,
+        Place::Void(reason) => 0x7FF8_0000_0000_0000 + reason_number(reason) as u64,
     }
 }
 

@@ -1,1 +1,2 @@
 mod Ratios
+pub mod ReasonNumbers

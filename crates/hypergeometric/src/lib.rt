@@ -3,10 +3,13 @@
 ghost use mathlib.Core.Path.{_≡_};
 ghost use Rattle.hypergeometric.specs.Steps.{yOf, etaOf, c1Of, nextC, halfAnglesOf, s4Of, backOf, gOf};
 
+mod reasons;
 mod results;
 mod series;
 
 use float64::Root;
+pub use reasons::Reason;
+pub use reasons::reason_number;
 pub use results::Angles;
 pub use results::HalfAngles;
 pub use results::StepValue;
@@ -43,20 +46,20 @@ pub fn half_angles(l: f64, x: f64, u: f64) -> HalfAngles
     ensures { λ r. ⌜ r ≡ halfAnglesOf l x u ⌝ }
 {
     let Root::Value(y) = y_at(l, u) else {
-        return HalfAngles::Void;
+        return HalfAngles::Void(Reason::RefusedRoot);
     };
     let eta = eta_at(l, x, y);
     let c1 = first_c(l, x, eta);
     let Root::Value(w1) = float64::square_root(c1) else {
-        return HalfAngles::Void;
+        return HalfAngles::Void(Reason::RefusedRoot);
     };
     let c2 = next_c(w1);
     let Root::Value(w2) = float64::square_root(c2) else {
-        return HalfAngles::Void;
+        return HalfAngles::Void(Reason::RefusedRoot);
     };
     let c3 = next_c(w2);
     let Root::Value(w3) = float64::square_root(c3) else {
-        return HalfAngles::Void;
+        return HalfAngles::Void(Reason::RefusedRoot);
     };
     HalfAngles::Known(Angles {
         eta,
@@ -82,10 +85,10 @@ fn back(g: f64, w: f64, c: f64) -> StepValue
 {
     let divisor = 4.0 * c;
     if w == 0.0 {
-        return StepValue::Void;
+        return StepValue::Void(Reason::ZeroDivisor);
     }
     if divisor == 0.0 {
-        return StepValue::Void;
+        return StepValue::Void(Reason::ZeroDivisor);
     }
     StepValue::Number((3.0 + g / w) / divisor)
 }
@@ -96,11 +99,13 @@ pub fn g_at(angles: Angles) -> StepValue
     ensures { λ r. ⌜ r ≡ gOf angles ⌝ }
 {
     let g = series(fourth_s(angles.w3));
-    let StepValue::Number(g3) = back(g, angles.w3, angles.c3) else {
-        return StepValue::Void;
+    let g3 = match back(g, angles.w3, angles.c3) {
+        StepValue::Number(g3) => g3,
+        StepValue::Void(reason) => return StepValue::Void(reason),
     };
-    let StepValue::Number(g2) = back(g3, angles.w2, angles.c2) else {
-        return StepValue::Void;
+    let g2 = match back(g3, angles.w2, angles.c2) {
+        StepValue::Number(g2) => g2,
+        StepValue::Void(reason) => return StepValue::Void(reason),
     };
     back(g2, angles.w1, angles.c1)
 }

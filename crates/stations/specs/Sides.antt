@@ -11,10 +11,10 @@ use Rattle.stations.specs.declared.side.Side.{Side}
 use Rattle.stations.specs.declared.side.Side.the-variants.{Below, NotBelow, Unknown}
 
 -- The side of a place for a wanted time T*: below if the place has a time T < T*, not below if it has any other time, and `Unknown` if it
--- is void.
+-- is void, with the reason why it is void.
 unfoldable pub sideOf : Place → Float → Side
 sideOf (Timed time) wanted = cond (time ≺ wanted) Below NotBelow
-sideOf Void wanted = Unknown
+sideOf (Void reason) wanted = Unknown reason
 
 -- The side of place k in a search, from the time of the search's triangle at k with the search's whole revolutions, and from the search's
 -- wanted time.
@@ -25,14 +25,14 @@ sideAt search k = sideOf (timeOf (search .triangle) k (search .revolutions)) (se
 abbrev pub opposite : Side → Side → Bool
 opposite Below Below = false
 opposite Below NotBelow = true
-opposite Below Unknown = false
+opposite Below (Unknown reason) = false
 opposite NotBelow Below = true
 opposite NotBelow NotBelow = false
-opposite NotBelow Unknown = false
-opposite Unknown b = false
+opposite NotBelow (Unknown reason) = false
+opposite (Unknown reason) b = false
 
 -- Whether a side is `Unknown`, the side of a void place.
 abbrev pub isUnknown : Side → Bool
 isUnknown Below = false
 isUnknown NotBelow = false
-isUnknown Unknown = true
+isUnknown (Unknown reason) = true

@@ -3,6 +3,7 @@ use Prim.Native.Nat.{ℕ, _+_, _^_}
 use mathlib.Core.Bool.{cond}
 use lib.Dec.{eqb}
 use lib.IntN.{ℤ, pos, _-ℤ_, _*ℤ_}
+use lib.Signed.{quotZ}
 use Rattle.flight_time.specs.Steps.{stationSpacing}
 
 -- The number of stations below k = 0: j begins at -4095.
@@ -16,6 +17,10 @@ lastJ revolutions = cond (eqb revolutions 0) 16384 4095
 -- The place of station i, counted from 0.
 unfoldable pub stationOf : ℕ → ℤ
 stationOf i = (pos i -ℤ pos stationsBelow) *ℤ pos stationSpacing
+
+-- The j of the station at place k, which is j·2^20.
+unfoldable pub jOf : ℤ → ℤ
+jOf k = quotZ k (pos stationSpacing)
 
 -- The index of the last station, counted from 0, for a number of whole revolutions.
 unfoldable pub lastOf : ℕ → ℕ

@@ -3,7 +3,7 @@
 // below the wanted time.
 ghost use mathlib.Core.Path.{_≡_};
 ghost use Rattle.stations.specs.Sides.{sideAt};
-ghost use Rattle.stations.specs.Stations.{stationOf, lastOf};
+ghost use Rattle.stations.specs.Stations.{stationOf, jOf, lastOf};
 
 mod search;
 mod side;
@@ -30,6 +30,13 @@ pub fn station(i: u16) -> i64
     ensures { λ r. ⌜ r ≡ stationOf i ⌝ }
 {
     (i as i64 + FIRST_J) * Place::STATION_SPACING
+}
+
+// Returns the j of station i.
+pub fn station_j(i: u16) -> i32
+    ensures { λ r. ⌜ r ≡ jOf (stationOf i) ⌝ }
+{
+    (i as i64 + FIRST_J) as i32
 }
 
 // Returns the index of the last station for the given number of whole revolutions.

@@ -3,13 +3,14 @@ ghost use mathlib.Core.Path.{_≡_};
 ghost use Rattle.stations.specs.Sides.{sideOf, sideAt, opposite, isUnknown};
 use crate::Search;
 use flight_time::Place;
+use hypergeometric::Reason;
 
 // The side of a place. A place with a time is below the wanted time or not below it; an equal time
-// is not below. The side of a void place is `Unknown`.
+// is not below. The side of a void place is `Unknown`, with the reason why the place is void.
 pub enum Side {
     Below,
     NotBelow,
-    Unknown,
+    Unknown(Reason),
 }
 
 // Returns the side of place k in a search.
@@ -34,7 +35,7 @@ fn side_of(place: Place, wanted: f64) -> Side
                 Side::NotBelow
             }
         }
-        Place::Void => Side::Unknown,
+        Place::Void(reason) => Side::Unknown(reason),
     }
 }
 
@@ -46,14 +47,14 @@ pub fn are_opposite(a: Side, b: Side) -> bool
         Side::Below => match b {
             Side::Below => false,
             Side::NotBelow => true,
-            Side::Unknown => false,
+            Side::Unknown(_) => false,
         },
         Side::NotBelow => match b {
             Side::Below => true,
             Side::NotBelow => false,
-            Side::Unknown => false,
+            Side::Unknown(_) => false,
         },
-        Side::Unknown => false,
+        Side::Unknown(_) => false,
     }
 }
 
@@ -64,6 +65,6 @@ pub fn is_unknown(side: Side) -> bool
     match side {
         Side::Below => false,
         Side::NotBelow => false,
-        Side::Unknown => true,
+        Side::Unknown(_) => true,
     }
 }

@@ -1,7 +1,7 @@
--- How one more place changes the brackets (`brackets-next`) and whether some place is void (`some-next`), and what is reported when the
+-- How one more place changes the brackets (`brackets-next`) and the report about the times (`void-next`), and what is reported when the
 -- walk ends (`all-passed`, `left-at`).
 use mathlib.Core.Path.{_≡_, refl, sym, ap, _∙_}
-use mathlib.Core.Bool.{Bool, true, false, cond, _||_, or-assoc, or-false}
+use mathlib.Core.Bool.{Bool, true, false, cond}
 use mathlib.Core.List.{List, [], _∷_, _++_, map, append-assoc, append-nil}
 use Prim.Native.Nat.{ℕ, zero, suc, _+_, _-_, _≤_, _<_}
 use native.Mathlib.Numerals.{add-one}
@@ -15,7 +15,10 @@ use Rattle.bisection.specs.declared.Bracket.{Bracket}
 use Rattle.stations.specs.declared.side.Side.{Side}
 use Rattle.stations.specs.Grid.{Grid}
 use Rattle.bisection.specs.Pairs.{crosses, bracketOf}
-use Rattle.sweep.specs.Crossings.{upTo, keep, some, crossings, someVoid, brackets, blank, eight, walkOf, reported, sweepOf}
+use Rattle.sweep.specs.Crossings.{upTo, keep, crossings, brackets, blank, eight, reported, sweepOf}
+use Rattle.sweep.specs.Walks.{voidAt, orLater, firstVoid, walkOf}
+use Rattle.sweep.specs.declared.walks.Walk.{Walk}
+use Rattle.sweep.specs.declared.walks.Walk.the-variants.{AllTimed, SomeVoid, NinthFound}
 
 -- ---- lists
 
@@ -36,11 +39,6 @@ unfolding keep
 keep-append p [] ys = refl
 keep-append p (x ∷ xs) ys = cond-append (p x) x (keep p (xs ++ ys)) (keep p xs) (keep p ys) (keep-append p xs ys)
 
-some-append : (p : ℕ → Bool) (xs ys : List ℕ) → some p (xs ++ ys) ≡ some p xs || some p ys
-unfolding some
-some-append p [] ys = refl
-some-append p (x ∷ xs) ys = ap (λ b. p x || b) (some-append p xs ys) ∙ sym (or-assoc (p x) (some p xs) (some p ys))
-
 up-next : (i : ℕ) → upTo (i + 1) ≡ upTo i ++ (i ∷ [])
 unfolding upTo
 up-next i = ap upTo (add-one i)
@@ -49,9 +47,33 @@ pub keep-next : (p : ℕ → Bool) (i : ℕ) → keep p (upTo (i + 1)) ≡ keep 
 unfolding keep
 keep-next p i = ap (keep p) (up-next i) ∙ keep-append p (upTo i) (i ∷ [])
 
-pub some-next : (p : ℕ → Bool) (i : ℕ) → some p (upTo (i + 1)) ≡ some p (upTo i) || p i
-unfolding some
-some-next p i = ap (some p) (up-next i) ∙ some-append p (upTo i) (i ∷ []) ∙ ap (λ b. some p (upTo i) || b) (or-false (p i))
+-- ---- the report about the times
+
+or-timed : (w : Walk) → orLater w AllTimed ≡ w
+or-timed AllTimed = refl
+or-timed (SomeVoid station) = refl
+or-timed NinthFound = refl
+
+or-assoc : (a b c : Walk) → orLater (orLater a b) c ≡ orLater a (orLater b c)
+or-assoc AllTimed b c = refl
+or-assoc (SomeVoid station) b c = refl
+or-assoc NinthFound b c = refl
+
+module _ (σ : ℤ → Side) (g : Grid) where
+  void-append : (is js : List ℕ) → firstVoid σ g (is ++ js) ≡ orLater (firstVoid σ g is) (firstVoid σ g js)
+  unfolding firstVoid
+  void-append [] js = refl
+  void-append (i ∷ is) js =
+      let first = voidAt (σ (g .place i)) (g .place i) in
+      ap (orLater first) (void-append is js) ∙ sym (or-assoc first (firstVoid σ g is) (firstVoid σ g js))
+
+  pub void-next : (i : ℕ) →
+      firstVoid σ g (upTo (i + 1)) ≡ orLater (firstVoid σ g (upTo i)) (voidAt (σ (g .place i)) (g .place i))
+  unfolding firstVoid
+  void-next i =
+      ap (firstVoid σ g) (up-next i)
+      ∙ void-append (upTo i) (i ∷ [])
+      ∙ ap (orLater (firstVoid σ g (upTo i))) (or-timed (voidAt (σ (g .place i)) (g .place i)))
 
 -- ---- the list of eight elements
 
@@ -66,19 +88,19 @@ eight-set bs b h =
 
 -- ---- the report
 
-pub no-ninth : (bs : List Bracket) (void : Bool) → length bs ≤ 8 →
-    record { list = eight bs; count = length bs; walk = walkOf false void } ≡ reported bs void
+pub no-ninth : (bs : List Bracket) (seen : Walk) → length bs ≤ 8 →
+    record { list = eight bs; count = length bs; walk = walkOf false seen } ≡ reported bs seen
 unfolding reported
-no-ninth bs void h =
-    let count : (reported bs void) .count ≡ length bs = omega arith in
+no-ninth bs seen h =
+    let count : (reported bs seen) .count ≡ length bs = omega arith in
     rw (take-all 8 bs h, count, le-ltb 8 (length bs) h)
 
-pub a-ninth : (bs rest : List Bracket) (b : Bracket) (u void : Bool) → length bs ≡ 8 →
-    record { list = eight bs; count = 8; walk = walkOf true u } ≡ reported (bs ++ (b ∷ rest)) void
+pub a-ninth : (bs rest : List Bracket) (b : Bracket) (passed all : Walk) → length bs ≡ 8 →
+    record { list = eight bs; count = 8; walk = walkOf true passed } ≡ reported (bs ++ (b ∷ rest)) all
 unfolding reported
-a-ninth bs rest b u void h =
+a-ninth bs rest b passed all h =
     let n : 8 < length (bs ++ (b ∷ rest)) = simp length-append (omega arith) in
-    let count : (reported (bs ++ (b ∷ rest)) void) .count ≡ 8 = omega arith in
+    let count : (reported (bs ++ (b ∷ rest)) all) .count ≡ 8 = omega arith in
     rw (take-at bs (b ∷ rest) 8 h, count, lt-ltb 8 (length (bs ++ (b ∷ rest))) n)
 
 -- ---- the places of any grid
@@ -105,19 +127,20 @@ module _ (σ : ℤ → Side) (g : Grid) where
 
   -- The result if the walk passed every place.
   pub all-passed : (last : ℕ) → length (brackets σ g last) ≤ 8 →
-      record { list = eight (brackets σ g last); count = length (brackets σ g last); walk = walkOf false (someVoid σ g last) }
+      record { list = eight (brackets σ g last); count = length (brackets σ g last); walk = walkOf false (firstVoid σ g (upTo (last + 1))) }
       ≡ sweepOf σ g last
   unfolding sweepOf
-  all-passed last h = no-ninth (brackets σ g last) (someVoid σ g last) h
+  all-passed last h = no-ninth (brackets σ g last) (firstVoid σ g (upTo (last + 1))) h
 
   -- The result if the walk stopped at pair i, the ninth that crosses.
-  pub left-at : (i last : ℕ) (u : Bool) → i < last → length (brackets σ g i) ≡ 8 → crosses σ g i ≡ true →
-      record { list = eight (brackets σ g i); count = 8; walk = walkOf true u } ≡ sweepOf σ g last
+  pub left-at : (i last : ℕ) (passed : Walk) → i < last → length (brackets σ g i) ≡ 8 → crosses σ g i ≡ true →
+      record { list = eight (brackets σ g i); count = 8; walk = walkOf true passed } ≡ sweepOf σ g last
   unfolding sweepOf
-  left-at i last u h e y =
+  left-at i last passed h e y =
+      let all = firstVoid σ g (upTo (last + 1)) in
       let j : last ≡ i + 1 + (last - (i + 1)) = omega arith in
       let r = later (i + 1) (last - (i + 1)) in
       let first : brackets σ g (i + 1) ≡ brackets σ g i ++ (bracketOf σ g i ∷ []) = rw (brackets-next i, y) in
-      a-ninth (brackets σ g i) (r .0) (bracketOf σ g i) u (someVoid σ g last) e
-      ∙ ap (λ bs. reported bs (someVoid σ g last))
+      a-ninth (brackets σ g i) (r .0) (bracketOf σ g i) passed all e
+      ∙ ap (λ bs. reported bs all)
       (sym (ap (brackets σ g) j ∙ r .1 ∙ ap (λ bs. bs ++ r .0) first ∙ append-snoc (brackets σ g i) (bracketOf σ g i) (r .0)))

@@ -1,7 +1,7 @@
 -- `Passed` is the invariant of the walk over the places of a grid. It holds at the start (`starts`), each iteration keeps it (`passed`,
 -- `listed`), and at the end it gives the result of the definition (`done` after the last place, `too-many` at a ninth crossing).
 use mathlib.Core.Path.{_≡_, refl, sym, ap, _∙_, subst}
-use mathlib.Core.Bool.{Bool, true, false, cond, _||_}
+use mathlib.Core.Bool.{Bool, true, false, cond}
 use mathlib.Core.List.{List, [], _∷_, _++_, append-nil}
 use Prim.Native.Nat.{ℕ, zero, suc, _+_, _-_, _≤_, _<_}
 use native.Mathlib.Numerals.{add-one}
@@ -10,34 +10,38 @@ use lib.Arith.{lt-of-le-ne}
 use lib.ListN.{length, set, length-append}
 use lib.IntN.{ℤ}
 use Rattle.bisection.specs.declared.Bracket.{Bracket}
+use Rattle.hypergeometric.specs.declared.reasons.Reason.the-variants.{OutsideRange}
 use Rattle.stations.specs.declared.side.Side.{Side}
 use Rattle.stations.specs.declared.side.Side.the-variants.{Unknown}
-use Rattle.stations.specs.Sides.{opposite, isUnknown}
+use Rattle.stations.specs.Sides.{opposite}
 use Rattle.stations.specs.Grid.{Grid}
 use Rattle.bisection.specs.Pairs.{crosses, bracketOf, bracketFrom}
 use Rattle.bisection.proofs.LowerSide.{own-bracket}
-use Rattle.sweep.specs.Crossings.{upTo, keep, some, crossings, someVoid, brackets, blank, eight, walkOf, sweepOf}
-use Rattle.sweep.proofs.Lists.{some-next, eight-set, brackets-next, all-passed, left-at}
+use Rattle.sweep.specs.Crossings.{upTo, keep, crossings, brackets, blank, eight, sweepOf}
+use Rattle.sweep.specs.Walks.{voidAt, orLater, firstVoid, walkOf}
+use Rattle.sweep.specs.declared.walks.Walk.{Walk}
+use Rattle.sweep.specs.declared.walks.Walk.the-variants.{AllTimed}
+use Rattle.sweep.proofs.Lists.{void-next, eight-set, brackets-next, all-passed, left-at}
 
--- The side of the place before place i, or `Unknown` for i = 0, because there is no place before the first.
+-- The side of the place before place i. There is no place before the first, and for i = 0 the side counts as unknown.
 unfoldable pub before : (ℤ → Side) → Grid → ℕ → Side
-before σ g zero = Unknown
+before σ g zero = Unknown OutsideRange
 before σ g (suc i) = σ (g .place i)
 
 -- The walk has passed the places below i. The list holds the brackets of the pairs that cross among them, and there was no ninth.
--- `void` says whether one of these places is void, and `low` is the side of the last one.
-pub record Passed (σ : ℤ → Side) (g : Grid) (last : ℕ) (list : List Bracket) (count : ℕ) (void : Bool) (low : Side) (i : ℕ) : Type 0 where
+-- `seen` is the report about the times at these places, and `low` is the side of the last one.
+pub record Passed (σ : ℤ → Side) (g : Grid) (last : ℕ) (list : List Bracket) (count : ℕ) (seen : Walk) (low : Side) (i : ℕ) : Type 0 where
   pub within : i ≤ last + 1
   pub here : low ≡ before σ g i
   pub found : list ≡ eight (brackets σ g (i - 1))
   pub counted : count ≡ length (brackets σ g (i - 1))
   pub most : count ≤ 8
-  pub voided : void ≡ some (λ j. isUnknown (σ (g .place j))) (upTo i)
+  pub seenIs : seen ≡ firstVoid σ g (upTo i)
 
 pub starts : (σ : ℤ → Side) (g : Grid) (last : ℕ) →
-    Passed σ g last (blank ∷ blank ∷ blank ∷ blank ∷ blank ∷ blank ∷ blank ∷ blank ∷ []) 0 false Unknown 0
-unfolding before brackets crossings keep some upTo
-starts σ g last = record { within = omega arith; here = refl; found = refl; counted = refl; most = omega arith; voided = refl }
+    Passed σ g last (blank ∷ blank ∷ blank ∷ blank ∷ blank ∷ blank ∷ blank ∷ blank ∷ []) 0 AllTimed (Unknown OutsideRange) 0
+unfolding before brackets crossings keep firstVoid upTo
+starts σ g last = record { within = omega arith; here = refl; found = refl; counted = refl; most = omega arith; seenIs = refl }
 
 -- What pair i adds to the brackets, given the sides of its lower and upper place: its own bracket if they are opposite, and nothing
 -- otherwise.
@@ -67,17 +71,16 @@ pair-at σ g (suc j) e =
     let k : suc j - 1 ≡ j = omega arith in
     record { positive = omega arith; crossing = rw (k, add-one j) e; lower = ap (λ (n : ℕ). σ (g .place n)) (sym k) }
 
-module _ {σ : ℤ → Side} {g : Grid} {last : ℕ} {list : List Bracket} {count : ℕ} {void : Bool} {low : Side} {i : ℕ}
-    (v : Passed σ g last list count void low i) where
+module _ {σ : ℤ → Side} {g : Grid} {last : ℕ} {list : List Bracket} {count : ℕ} {seen : Walk} {low : Side} {i : ℕ}
+    (v : Passed σ g last list count seen low i) where
   -- The walk has passed every place.
   pub done : {ninth : Bool} → ninth ≡ false → last < i →
-      record { list = list; count = count; walk = walkOf ninth void } ≡ sweepOf σ g last
-  unfolding someVoid
+      record { list = list; count = count; walk = walkOf ninth seen } ≡ sweepOf σ g last
   done n h =
       let e : i - 1 ≡ last = omega (arith, v .within) in
       let f : i ≡ last + 1 = omega (arith, v .within) in
       let few : length (brackets σ g (i - 1)) ≤ 8 = omega (arith, v .counted, v .most) in
-      rw (v .found, v .counted, v .voided, n, e, f)
+      rw (v .found, v .counted, v .seenIs, n, e, f)
       (all-passed σ g last (subst (λ (k : ℕ). length (brackets σ g k) ≤ 8) e few))
 
   module _ {high : Side} (h : high ≡ σ (g .place i)) where
@@ -93,17 +96,17 @@ module _ {σ : ℤ → Side} {g : Grid} {last : ℕ} {list : List Bracket} {coun
 
     -- The walk stops at a ninth crossing.
     pub too-many : {ninth : Bool} → ninth ≡ true → i ≤ last → count ≡ 8 → opposite low high ≡ true →
-        record { list = list; count = count; walk = walkOf ninth void } ≡ sweepOf σ g last
+        record { list = list; count = count; walk = walkOf ninth seen } ≡ sweepOf σ g last
     too-many n l e o =
         let p = pair o in
         let full : length (brackets σ g (i - 1)) ≡ 8 = sym (v .counted) ∙ e in
-        rw (v .found, n, e) (left-at σ g (i - 1) last void (omega (arith, p .positive)) full (p .crossing))
+        rw (v .found, n, e) (left-at σ g (i - 1) last seen (omega (arith, p .positive)) full (p .crossing))
 
-    module _ {unknown : Bool} (u : unknown ≡ isUnknown high) (l : i ≤ last) where
+    module _ {now : Walk} (u : now ≡ orLater seen (voidAt high (g .place i))) (l : i ≤ last) where
       -- The invariant after place i, given the list and the count after the pair below place i.
       next : (list' : List Bracket) (count' : ℕ) →
           list' ≡ eight (brackets σ g i) → count' ≡ length (brackets σ g i) → count' ≤ 8 →
-          Passed σ g last list' count' (void || unknown) high (i + 1)
+          Passed σ g last list' count' now high (i + 1)
       unfolding before
       next list' count' listed counted most =
           let e : i + 1 - 1 ≡ i = omega arith in
@@ -113,18 +116,18 @@ module _ {σ : ℤ → Side} {g : Grid} {last : ℕ} {list : List Bracket} {coun
             found = rw e listed;
             counted = rw e counted;
             most = most;
-            voided = rw (v .voided, u, h) (sym (some-next (λ j. isUnknown (σ (g .place j))) i));
+            seenIs = rw (u, v .seenIs, h) (sym (void-next σ g i));
           }
 
       -- The invariant after place i if the pair below it does not cross.
-      pub passed : opposite low high ≡ false → Passed σ g last list count (void || unknown) high (i + 1)
+      pub passed : opposite low high ≡ false → Passed σ g last list count now high (i + 1)
       passed o =
           let none : brackets σ g i ≡ brackets σ g (i - 1) = added σ g i ∙ rw (← v .here, ← h, o, append-nil) in
           next list count (rw none (v .found)) (rw none (v .counted)) (v .most)
 
       -- The invariant after place i if the pair below it crosses and its bracket was written to the list.
       pub listed : {b : Bracket} → opposite low high ≡ true → (count ≡ 8 → ⊥) → b ≡ bracketFrom σ low g (i - 1) →
-          Passed σ g last (set list count b) (count + 1) (void || unknown) high (i + 1)
+          Passed σ g last (set list count b) (count + 1) now high (i + 1)
       listed {b} o f e =
           let earlier = brackets σ g (i - 1) in
           let room : count < 8 = lt-of-le-ne (v .most) f in

@@ -11,12 +11,12 @@ use Rattle.bisection.specs.declared.Bracket.{Bracket}
 use Rattle.stations.specs.declared.search.Search.{Search}
 use Rattle.stations.specs.declared.side.Side.{Side}
 use Rattle.sweep.specs.declared.Crossings.{Crossings}
-use Rattle.sweep.specs.declared.Walk.{Walk}
-use Rattle.sweep.specs.declared.Walk.the-variants.{AllTimed, SomeVoid, NinthFound}
+use Rattle.sweep.specs.declared.walks.Walk.{Walk}
 use Rattle.stations.specs.Sides.{sideAt, isUnknown}
 use Rattle.stations.specs.Grid.{Grid}
 use Rattle.stations.specs.SearchGrid.{gridFor, lastFor}
 use Rattle.bisection.specs.Pairs.{crosses, bracketOf}
+use Rattle.sweep.specs.Walks.{firstVoid, walkOf}
 
 -- The list 0, 1, .., n - 1.
 unfoldable pub upTo : ℕ → List ℕ
@@ -53,24 +53,19 @@ blank = record { lower = pos 0; upper = pos 0; halvings = 0 }
 abbrev pub eight : List Bracket → List Bracket
 eight bs = bs ++ replicate (8 - length bs) blank
 
--- What is reported about the times at the places, given whether there is a ninth crossing and whether some place is void. If there is a
--- ninth crossing, only that is reported.
-abbrev pub walkOf : Bool → Bool → Walk
-walkOf ninth void = cond ninth NinthFound (cond void SomeVoid AllTimed)
-
--- What a sweep reports, given all brackets and whether some place is void: the first eight brackets, their count, and the report about
--- the times at the places.
-unfoldable pub reported : List Bracket → Bool → Crossings
-reported bs void =
+-- What a sweep reports, given all brackets and the report about the times at all places: the first eight brackets, their count, and the
+-- report of the whole sweep.
+unfoldable pub reported : List Bracket → Walk → Crossings
+reported bs seen =
     record {
       list = eight (take 8 bs);
       count = min 8 (length bs);
-      walk = walkOf (ltb 8 (length bs)) void;
+      walk = walkOf (ltb 8 (length bs)) seen;
     }
 
 -- The result of a sweep over the places of a grid up to `last`.
 unfoldable pub sweepOf : (ℤ → Side) → Grid → ℕ → Crossings
-sweepOf σ g last = reported (brackets σ g last) (someVoid σ g last)
+sweepOf σ g last = reported (brackets σ g last) (firstVoid σ g (upTo (last + 1)))
 
 -- The result of a search: the sweep over its grid, with its sides.
 abbrev pub sweepFor : Search → Crossings

@@ -2,24 +2,23 @@
 // time. It walks over the stations in rising x and bisects each of the first eight neighbouring
 // pairs whose times are on different sides, down to a bracket.
 ghost use mathlib.Core.Path.{_≡_};
-ghost use Rattle.sweep.specs.Crossings.{walkOf, sweepFor};
+ghost use Rattle.sweep.specs.Crossings.{sweepFor};
+
+mod walks;
+
 pub use bisection::Bracket;
 use bisection::bracket_of;
+use hypergeometric::Reason;
 use stations::Search;
 use stations::Side;
 use stations::are_opposite;
-use stations::is_unknown;
 use stations::last_station;
 use stations::side_of_station;
-
-// What a sweep found out about the times at the stations: all stations have times, or some are
-// void. `NinthFound` means that the sweep stopped at a ninth crossing. In that case it does not
-// report whether a station is void.
-pub enum Walk {
-    AllTimed,
-    SomeVoid,
-    NinthFound,
-}
+pub use walks::VoidStation;
+pub use walks::Walk;
+use walks::or_later;
+use walks::void_at;
+use walks::walk_of;
 
 // The result of a sweep: the brackets of the first eight crossings, the lowest first. The list has
 // eight elements. The first `count` of them are used, and the others are zeros.
@@ -30,7 +29,7 @@ pub struct Crossings {
 }
 
 // Sweeps over the stations of a search. Returns the brackets of the first eight crossings, their
-// count, and how the walk ended.
+// count, and what was found out about the times at the stations.
 pub fn find_crossings(search: Search) -> Crossings
     ensures { λ r. ⌜ r ≡ sweepFor search ⌝ }
 {
@@ -42,8 +41,8 @@ pub fn find_crossings(search: Search) -> Crossings
     };
     let mut list = [blank; 8];
     let mut count: usize = 0;
-    let mut void = false;
-    let mut low = Side::Unknown; // There is no station before the first.
+    let mut seen = Walk::AllTimed;
+    let mut low = Side::Unknown(Reason::OutsideRange); // A station before the first would be outside the range.
     let mut i: u16 = 0;
     'stations: while i <= last {
         let high = side_of_station(search, i);
@@ -54,7 +53,7 @@ pub fn find_crossings(search: Search) -> Crossings
             list[count] = bracket_of(search, low, i - 1);
             count += 1;
         }
-        void = void | is_unknown(high);
+        seen = or_later(seen, void_at(high, i));
         low = high;
         i += 1;
     }
@@ -62,18 +61,6 @@ pub fn find_crossings(search: Search) -> Crossings
     Crossings {
         list,
         count,
-        walk: walk_of(i <= last, void),
-    }
-}
-
-fn walk_of(ninth: bool, void: bool) -> Walk
-    ensures { λ r. ⌜ r ≡ walkOf ninth void ⌝ }
-{
-    if ninth {
-        Walk::NinthFound
-    } else if void {
-        Walk::SomeVoid
-    } else {
-        Walk::AllTimed
+        walk: walk_of(i <= last, seen),
     }
 }

@@ -1,5 +1,5 @@
 -- `time_at` meets its contract. Each return follows from the contracts of the calls before it. An early return is the
--- case of a step that is void.
+-- case of a step that is void, and it passes on the reason.
 use Prim.Native.Nat.{ℕ}
 use mathlib.Core.Path.{_≡_, sym}
 use mathlib.Core.Bool.{not}
@@ -8,6 +8,7 @@ use lib.Ieee.{Float}
 use Rattle.float64.specs.Value.{finiteOf}
 use Rattle.geometry.specs.declared.Triangle.{Triangle}
 use Rattle.hypergeometric.specs.Steps.{gOf}
+use Rattle.hypergeometric.specs.declared.reasons.Reason.the-variants.{NotFinite}
 use Rattle.hypergeometric.specs.declared.results.Angles.{Angles}
 use Rattle.flight_time.specs.Steps.{outsideRange, xOf, directOf, withRevolutions}
 use Rattle.flight_time.specs.Time.{timeOf, voidIf, afterStep, afterAngles}
@@ -32,7 +33,7 @@ x-is c = rw (toZ-ofZ (c .before .before .before .fits .k)) at (c .x-at .ensures)
 -- `to-angles`, `to-g` and `to-time` show that `timeOf` is equal to the result of the call that computes the angles, G
 -- or the time, followed by those steps.
 abbrev from-time : Float → Place
-from-time time = voidIf (not (finiteOf time)) (Timed time)
+from-time time = voidIf (not (finiteOf time)) NotFinite (Timed time)
 
 abbrev from-g : Triangle → Float → ℕ → Angles → Float → Place
 from-g t u revolutions angles g = afterStep (withRevolutions (directOf (t .lambda) (angles .eta) g) u revolutions) from-time
@@ -60,17 +61,21 @@ to-g : (c : tie.After-g-at)
     ≡ afterStep (c .g-at .result) (from-g (a .triangle) (u .u-at .result) (a .revolutions) (angles .angles .given .0 .0))
 to-g c =
     let angles = c .before .before in
-    simp (to-angles (angles .before .before), angles .angles .given .1, sym (c .g-at .ensures))
+    let halved = angles .before .before in
+    simp (to-angles halved, angles .angles .given .1, sym (c .g-at .ensures))
 
 to-time : (c : tie.After-with-revolutions)
-    → let g = c .before .before .before in
+    → let direct = c .before in
+    let g = direct .before .before in
     let angles = g .before .before .before .before in
-    let a = angles .before .before .before .before .before .before .before .args in
+    let u = angles .before .before .before in
+    let a = u .before .before .before .before .args in
     timeOf (a .triangle) (a .k) (a .revolutions) ≡ afterStep (c .with-revolutions .result) from-time
 to-time c =
     let direct = c .before in
     let g = direct .before .before in
-    simp (to-g (g .before .before), g .g .given .1, sym (direct .direct .ensures), sym (c .with-revolutions .ensures))
+    let undone = g .before .before in
+    simp (to-g undone, g .g .given .1, sym (direct .direct .ensures), sym (c .with-revolutions .ensures))
 
 is-outside-requires : tie.Need-is-outside-requires
 is-outside-requires c κs = search needs
@@ -91,11 +96,14 @@ half-angles-requires c κs = search needs
 enum-known-angles : tie.Need-enum-known-angles
 enum-known-angles c = search needs
 
-enum-told : tie.Need-enum-told
-enum-told c = search needs
+enum-known-reason : tie.Need-enum-known-reason
+enum-known-reason c = search needs
 
 returns-2 : tie.Need-returns-2
-returns-2 c = simp (to-angles (c .before .before), c .enum-told .given .1)
+returns-2 c =
+    let void = c .before in
+    let halved = void .before .before in
+    simp (to-angles halved, void .reason .given .1)
 
 g-at-requires : tie.Need-g-at-requires
 g-at-requires c κs = search needs
@@ -103,11 +111,14 @@ g-at-requires c κs = search needs
 enum-known-g : tie.Need-enum-known-g
 enum-known-g c = search needs
 
-enum-told-2 : tie.Need-enum-told-2
-enum-told-2 c = search needs
+enum-known-reason-2 : tie.Need-enum-known-reason-2
+enum-known-reason-2 c = search needs
 
 returns-3 : tie.Need-returns-3
-returns-3 c = simp (to-g (c .before .before), c .enum-told2 .given .1)
+returns-3 c =
+    let void = c .before in
+    let undone = void .before .before in
+    simp (to-g undone, void .reason2 .given .1)
 
 direct-requires : tie.Need-direct-requires
 direct-requires c κs = search needs
@@ -118,24 +129,31 @@ with-revolutions-requires c κs = search needs
 enum-known-time : tie.Need-enum-known-time
 enum-known-time c = search needs
 
-enum-told-3 : tie.Need-enum-told-3
-enum-told-3 c = search needs
+enum-known-reason-3 : tie.Need-enum-known-reason-3
+enum-known-reason-3 c = search needs
 
 returns-4 : tie.Need-returns-4
-returns-4 c = simp (to-time (c .before .before), c .enum-told3 .given .1)
+returns-4 c =
+    let void = c .before in
+    let revolved = void .before .before in
+    simp (to-time revolved, void .reason3 .given .1)
 
 is-finite-requires : tie.Need-is-finite-requires
 is-finite-requires c κs = search needs
 
 returns-5 : tie.Need-returns-5
 returns-5 c =
-    let time = c .before .before .before in
-    simp (to-time (time .before .before), time .time .given .1, sym (c .before .is-finite .ensures), c .if2 .taken)
+    let finite = c .before in
+    let time = finite .before .before in
+    let revolved = time .before .before in
+    simp (to-time revolved, time .time .given .1, sym (finite .is-finite .ensures), c .if2 .taken)
 
 returns-6 : tie.Need-returns-6
 returns-6 c =
-    let time = c .before .before .before in
-    simp (to-time (time .before .before), time .time .given .1, sym (c .before .is-finite .ensures), c .if2 .left)
+    let finite = c .before in
+    let time = finite .before .before in
+    let revolved = time .before .before in
+    simp (to-time revolved, time .time .given .1, sym (finite .is-finite .ensures), c .if2 .left)
 
 pub time-at-spec : {M : Type 1} → statement M
 time-at-spec =
@@ -147,16 +165,16 @@ time-at-spec =
     u-at-requires
     half-angles-requires
     enum-known-angles
-    enum-told
+    enum-known-reason
     returns-2
     g-at-requires
     enum-known-g
-    enum-told-2
+    enum-known-reason-2
     returns-3
     direct-requires
     with-revolutions-requires
     enum-known-time
-    enum-told-3
+    enum-known-reason-3
     returns-4
     is-finite-requires
     returns-5

@@ -1,5 +1,5 @@
 -- `g_at` meets its contract. Each return follows from the contracts of the calls before it. An early return is the case
--- of a division that is void.
+-- of a division that is void, and it passes on the reason.
 use mathlib.Core.Path.{_≡_, sym}
 use Rattle.hypergeometric.specs.Steps.{gOf, then, backOf}
 use borrow.Author.Needs.{needs}
@@ -16,12 +16,14 @@ to-g3 c =
     simp (sym (series .before .fourth-s .ensures), sym (series .series .ensures), sym (c .back .ensures))
 
 to-g2 : (c : tie.After-back2)
-    → let third = c .before .before .before .before in
+    → let g3 = c .before .before in
+    let third = g3 .before .before in
     let angles = third .before .before .before .args .angles in
     gOf angles ≡ then (c .back2 .result) (λ g2. backOf g2 (angles .w1) (angles .c1))
 to-g2 c =
     let g3 = c .before .before in
-    simp (to-g3 (g3 .before .before), g3 .g3 .given .1, sym (c .back2 .ensures))
+    let third = g3 .before .before in
+    simp (to-g3 third, g3 .g3 .given .1, sym (c .back2 .ensures))
 
 fourth-s-requires : tie.Need-fourth-s-requires
 fourth-s-requires c κs = search needs
@@ -35,11 +37,14 @@ back-requires c κs = search needs
 enum-known-g3 : tie.Need-enum-known-g3
 enum-known-g3 c = search needs
 
-enum-told : tie.Need-enum-told
-enum-told c = search needs
+enum-known-reason : tie.Need-enum-known-reason
+enum-known-reason c = search needs
 
 returns : tie.Need-returns
-returns c = simp (to-g3 (c .before .before), c .enum-told .given .1)
+returns c =
+    let void = c .before in
+    let third = void .before .before in
+    simp (to-g3 third, void .reason .given .1)
 
 back-requires-2 : tie.Need-back-requires-2
 back-requires-2 c κs = search needs
@@ -47,11 +52,14 @@ back-requires-2 c κs = search needs
 enum-known-g2 : tie.Need-enum-known-g2
 enum-known-g2 c = search needs
 
-enum-told-2 : tie.Need-enum-told-2
-enum-told-2 c = search needs
+enum-known-reason-2 : tie.Need-enum-known-reason-2
+enum-known-reason-2 c = search needs
 
 returns-2 : tie.Need-returns-2
-returns-2 c = simp (to-g2 (c .before .before), c .enum-told2 .given .1)
+returns-2 c =
+    let void = c .before in
+    let second = void .before .before in
+    simp (to-g2 second, void .reason2 .given .1)
 
 back-requires-3 : tie.Need-back-requires-3
 back-requires-3 c κs = search needs
@@ -59,7 +67,8 @@ back-requires-3 c κs = search needs
 returns-3 : tie.Need-returns-3
 returns-3 c =
     let g2 = c .before .before in
-    simp (to-g2 (g2 .before .before), g2 .g2 .given .1, sym (c .back3 .ensures))
+    let second = g2 .before .before in
+    simp (to-g2 second, g2 .g2 .given .1, sym (c .back3 .ensures))
 
 pub g-at-spec : {M : Type 1} → statement M
 g-at-spec =
@@ -69,11 +78,11 @@ g-at-spec =
     series-requires
     back-requires
     enum-known-g3
-    enum-told
+    enum-known-reason
     returns
     back-requires-2
     enum-known-g2
-    enum-told-2
+    enum-known-reason-2
     returns-2
     back-requires-3
     returns-3)

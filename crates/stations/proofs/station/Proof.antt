@@ -9,23 +9,17 @@ use lib.IntN.{ℤ, pos, _+ℤ_, _*ℤ_}
 use lib.Signed.{mag}
 use mir.Syntax.{w64}
 use mir.Val.{SFits, toZ, ofZ}
-use mir.Facts.{toZ-ofZ, toZ-pos}
+use mir.Facts.{toZ-ofZ}
 use Rattle.flight_time.specs.Steps.{stationSpacing}
 use Rattle.stations.specs.Stations.{stationOf}
-use Rattle.stations.proofs.Places.{mag-from, mag-times}
+use Rattle.stations.proofs.Places.{mag-from, mag-times, sum-read, sum-fits}
 use Rattle.stations.proofs.station.Statement.{statement}
 use Rattle.stations.proofs.station.Tie as tie
 
 module _ (i : ℕ) (first : ℤ) (h : i < 65536) (f : mag first < 65536) where
-  sum-read : toZ w64 i +ℤ first ≡ pos i +ℤ first
-  sum-read = ap (λ z. z +ℤ first) (toZ-pos w64 (omega arith))
-
-  sum-fits : SFits w64 (toZ w64 i +ℤ first)
-  sum-fits = rw sum-read (record { sfits = omega (arith, mag-from i first, h, f) })
-
   module _ (spacing : ℕ) (s : spacing ≤ stationSpacing) where
     back : toZ w64 (ofZ w64 (toZ w64 i +ℤ first)) *ℤ pos spacing ≡ (pos i +ℤ first) *ℤ pos spacing
-    back = ap (λ z. z *ℤ pos spacing) (toZ-ofZ sum-fits ∙ sum-read)
+    back = ap (λ z. z *ℤ pos spacing) (toZ-ofZ (sum-fits i first h f) ∙ sum-read i first h f)
 
     product-fits : SFits w64 (toZ w64 (ofZ w64 (toZ w64 i +ℤ first)) *ℤ pos spacing)
     product-fits =

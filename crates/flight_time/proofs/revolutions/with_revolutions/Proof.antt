@@ -44,8 +44,8 @@ returns-2 c =
 returns-3 : tie.Need-returns-3
 returns-3 c = simp (to-divisor (c .before .before), c .if2 .taken)
 
-int-to-float-t8 : tie.Need-int-to-float-t8
-int-to-float-t8 c = search needs
+int-to-float-count : tie.Need-int-to-float-count
+int-to-float-count c = search needs
 
 returns-4 : tie.Need-returns-4
 returns-4 c = simp (to-divisor (c .before .before .before), c .before .if2 .left)
@@ -60,5 +60,5 @@ with-revolutions-spec =
     enum-told
     returns-2
     returns-3
-    int-to-float-t8
+    int-to-float-count
     returns-4)

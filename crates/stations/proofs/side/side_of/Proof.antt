@@ -8,8 +8,8 @@ use Rattle.stations.proofs.side.side_of.Tie as tie
 enum-known-place : tie.Need-enum-known-place
 enum-known-place c = search needs
 
-enum-told : tie.Need-enum-told
-enum-told c = search needs
+enum-known-place-2 : tie.Need-enum-known-place-2
+enum-known-place-2 c = search needs
 
 returns : tie.Need-returns
 unfolding sideOf
@@ -21,7 +21,7 @@ returns-2 c = simp (c .before .before .place .given .1, c .if1 .left)
 
 returns-3 : tie.Need-returns-3
 unfolding sideOf
-returns-3 c = search needs
+returns-3 c = simp (c .before .place2 .given .1)
 
 pub side-of-spec : {M : Type 1} → statement M
-side-of-spec = tie.close (tie.spec enum-known-place enum-told returns returns-2 returns-3)
+side-of-spec = tie.close (tie.spec enum-known-place enum-known-place-2 returns returns-2 returns-3)
