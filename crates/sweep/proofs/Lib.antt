@@ -1,3 +1,4 @@
 pub mod Counts
 pub mod Lists
+pub mod Reports
 pub mod Turns
