@@ -26,8 +26,8 @@ placeOf p k = timeOf (p .triangle) k (p .revolutions)
 -- No end of a crossing's bracket is void.
 abbrev pub upperOf : Place → Place → Float → Bool
 upperOf (Timed lower) (Timed upper) wanted = upperChosen lower upper wanted
-upperOf (Timed lower) Void wanted = false
-upperOf Void upper wanted = false
+upperOf (Timed lower) (Void reason) wanted = false
+upperOf (Void reason) upper wanted = false
 
 -- Whether the upper end of a bracket is chosen.
 unfoldable pub takesUpper : Problem → Bracket → Bool

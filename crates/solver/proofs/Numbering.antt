@@ -1,37 +1,42 @@
--- The number that the code finds is that of the first row of 11 to 14 that applies (`number-is`). If no row applies, the sweep lists
--- every bracket (`few`, `entries-are`, `count-is`).
+-- The number that the code finds is that of the first row of 11 to 14 that applies (`number-is`), and the refusal that it makes from the
+-- sweep's report is the refusal of that row (`refusal-is`). If no row applies, the sweep lists every bracket (`few`, `entries-are`,
+-- `count-is`).
 use mathlib.Core.Path.{_≡_, refl, sym, ap, _∙_}
 use mathlib.Core.Bool.{Bool, true, false, cond, not, _&&_}
 use mathlib.Core.List.{List, map}
-use Prim.Native.Nat.{ℕ, _≤_}
+use Prim.Native.Nat.{ℕ, _+_, _≤_}
 use native.Mathlib.Omega.{arith}
 use borrow.Author.Tests.{ltb-true, ltb-false, ne-eqb}
 use lib.Dec.{eqb, ltb}
 use lib.ListN.{length, take, length-map}
 use Rattle.entrance.specs.Judge.{firstOf}
 use Rattle.entrance.specs.declared.Problem.{Problem}
-use Rattle.sweep.specs.Crossings.{walkOf, reported, sweepOf}
+use Rattle.sweep.specs.Crossings.{upTo, someVoid, reported, sweepOf}
+use Rattle.sweep.specs.Walks.{walkOf}
 use Rattle.sweep.specs.declared.Crossings.{Crossings}
-use Rattle.sweep.specs.declared.Walk.{Walk}
+use Rattle.sweep.specs.declared.walks.Walk.{Walk}
+use Rattle.sweep.specs.declared.walks.Walk.the-variants.{AllTimed, SomeVoid, NinthFound}
 use Rattle.sweep.proofs.Counts.{counted, length-is, all-listed}
+use Rattle.sweep.proofs.Reports.{Agrees, none-void, some-void, agrees}
 use Rattle.entries.specs.Entries.{entryFor, finiteFor, every}
-use Rattle.solver.specs.Crossed.{sidesOf, gridOf, lastPlace, bracketsOf, entriesOf}
+use Rattle.solver.specs.Crossed.{sidesOf, gridOf, lastPlace, seenOf, bracketsOf, entriesOf}
 use Rattle.solver.specs.Table.{crossingCount, anyVoid, allFinite, lateChecks}
 use Rattle.solver.specs.Internals.{lateNumber}
-use Rattle.solver.specs.Solve.{refused, answered, settledOf}
+use Rattle.solver.specs.Solve.{refused, lateRefusal, answered, settledOf}
+use Rattle.solver.specs.declared.Outcome.{Outcome}
 
 -- The rows as a chain of conditions.
 abbrev pub rows : Bool → Bool → Bool → Bool → ℕ
 rows none void ninth finite = cond (none && not void) 11 (cond (none && void) 12 (cond ninth 13 (cond (not finite) 14 0)))
 
-by-walk : (none void finite : Bool) (count : ℕ) → eqb count 0 ≡ none →
-    lateNumber (walkOf false void) count finite ≡ rows none void false finite
-by-walk true true finite count e = rw e
-by-walk true false finite count e = rw e
-by-walk false true true count e = rw e
-by-walk false true false count e = rw e
-by-walk false false true count e = rw e
-by-walk false false false count e = rw e
+by-report : {seen : Walk} {void : Bool} → Agrees seen void → (none finite : Bool) (count : ℕ) → eqb count 0 ≡ none →
+    lateNumber (walkOf false seen) count finite ≡ rows none void false finite
+by-report none-void true finite count e = rw e
+by-report none-void false true count e = rw e
+by-report none-void false false count e = rw e
+by-report (some-void station) true finite count e = rw e
+by-report (some-void station) false true count e = rw e
+by-report (some-void station) false false count e = rw e
 
 module _ (p : Problem) where
   -- The result of a problem's sweep: the listed brackets, their count, and the walk.
@@ -52,26 +57,58 @@ module _ (p : Problem) where
   few-count : crossingCount p ≤ 8 → found .count ≡ crossingCount p
   few-count h = omega (arith, counted (sidesOf p) (gridOf p) (lastPlace p), h)
 
+  -- The report names a void place exactly if some place is void.
+  report-agrees : Agrees (seenOf p) (anyVoid p)
+  unfolding seenOf someVoid
+  report-agrees = agrees (sidesOf p) (gridOf p) (upTo (lastPlace p + 1))
+
   by-ninth : (ninth : Bool) → ltb 8 (crossingCount p) ≡ ninth →
-      lateNumber (walkOf ninth (anyVoid p)) (found .count) finiteFound ≡ rows (eqb (crossingCount p) 0) (anyVoid p) ninth (allFinite p)
+      lateNumber (walkOf ninth (seenOf p)) (found .count) finiteFound ≡ rows (eqb (crossingCount p) 0) (anyVoid p) ninth (allFinite p)
   by-ninth true e = rw (ne-eqb (crossingCount p) 0 (λ z. omega (arith, z, ltb-true 8 (crossingCount p) e)))
   by-ninth false e =
       let few = ltb-false 8 (crossingCount p) e in
-      rw (all-there few, few-count few) (by-walk (eqb (crossingCount p) 0) (anyVoid p) (allFinite p) (crossingCount p) refl)
+      rw (all-there few, few-count few) (by-report report-agrees (eqb (crossingCount p) 0) (allFinite p) (crossingCount p) refl)
 
   pub rows-are : firstOf (lateChecks p) ≡ rows (eqb (crossingCount p) 0) (anyVoid p) (ltb 8 (crossingCount p)) (allFinite p)
   unfolding firstOf lateChecks
   rows-are = refl
 
-  walk-is : found .walk ≡ walkOf (ltb 8 (crossingCount p)) (anyVoid p)
-  unfolding sweepOf reported
-  walk-is = ap (λ (n : ℕ). walkOf (ltb 8 n) (anyVoid p)) (length-is (sidesOf p) (gridOf p) (lastPlace p))
+  walk-is : found .walk ≡ walkOf (ltb 8 (crossingCount p)) (seenOf p)
+  unfolding sweepOf reported seenOf
+  walk-is = ap (λ (n : ℕ). walkOf (ltb 8 n) (seenOf p)) (length-is (sidesOf p) (gridOf p) (lastPlace p))
 
   pub number-is : lateNumber (found .walk) (found .count) finiteFound ≡ firstOf (lateChecks p)
   number-is =
       ap (λ (w : Walk). lateNumber w (found .count) finiteFound) walk-is
       ∙ by-ninth (ltb 8 (crossingCount p)) refl
       ∙ sym rows-are
+
+  -- ---- The refusal: at a ninth crossing the number is 13, which comes without a void station
+
+  thirteen : (seen : Walk) → lateRefusal 13 NinthFound ≡ lateRefusal 13 seen
+  thirteen AllTimed = refl
+  thirteen (SomeVoid station) = refl
+  thirteen NinthFound = refl
+
+  rows-ninth : (none void finite : Bool) → none ≡ false → rows none void true finite ≡ 13
+  rows-ninth none void finite e = rw e
+
+  ninth-number : ltb 8 (crossingCount p) ≡ true → firstOf (lateChecks p) ≡ 13
+  ninth-number e =
+      let some = ne-eqb (crossingCount p) 0 (λ z. omega (arith, z, ltb-true 8 (crossingCount p) e)) in
+      rows-are ∙ rw e (rows-ninth (eqb (crossingCount p) 0) (anyVoid p) (allFinite p) some)
+
+  refusal-by : (ninth : Bool) → ltb 8 (crossingCount p) ≡ ninth →
+      lateRefusal (firstOf (lateChecks p)) (walkOf ninth (seenOf p)) ≡ lateRefusal (firstOf (lateChecks p)) (seenOf p)
+  refusal-by true e = rw (ninth-number e) (thirteen (seenOf p))
+  refusal-by false e = refl
+
+  -- The refusal made from the sweep's report is that of the first row that applies.
+  pub refusal-is : (n : ℕ) → n ≡ firstOf (lateChecks p) → lateRefusal n (found .walk) ≡ lateRefusal (firstOf (lateChecks p)) (seenOf p)
+  refusal-is n e =
+      ap (λ (m : ℕ). lateRefusal m (found .walk)) e
+      ∙ ap (lateRefusal (firstOf (lateChecks p))) walk-is
+      ∙ refusal-by (ltb 8 (crossingCount p)) refl
 
   -- ---- The case that no row applies
 
@@ -96,9 +133,12 @@ module _ (p : Problem) where
   -- ---- The result for the problem
 
   module _ (buffer : List ℕ) where
-    pub refused-is : (n : ℕ) → n ≡ firstOf (lateChecks p) → (n ≡ 0 → ⊥) → settledOf p buffer ≡ refused n buffer
+    pub refused-is : (n : ℕ) → n ≡ firstOf (lateChecks p) → (n ≡ 0 → ⊥) →
+        settledOf p buffer ≡ refused (lateRefusal n (found .walk)) buffer
     unfolding settledOf
-    refused-is n e f = rw (← e, ne-eqb n 0 f)
+    refused-is n e f =
+        let some : eqb (firstOf (lateChecks p)) 0 ≡ false = rw (← e) (ne-eqb n 0 f) in
+        rw some (ap (λ (r : Outcome). refused r buffer) (sym (refusal-is n e)))
 
     pub answered-is : firstOf (lateChecks p) ≡ 0 → settledOf p buffer ≡ answered p buffer
     unfolding settledOf

@@ -1,5 +1,5 @@
 -- The crossings of a problem, and the entries of its answer (01, Stations, sides, crossings). Definitions only.
-use Prim.Native.Nat.{ℕ}
+use Prim.Native.Nat.{ℕ, _+_}
 use mathlib.Core.List.{List, map}
 use lib.IntN.{ℤ}
 use Rattle.records.specs.declared.Entry.{Entry}
@@ -8,7 +8,9 @@ use Rattle.stations.specs.Sides.{sideAt}
 use Rattle.stations.specs.Grid.{Grid}
 use Rattle.stations.specs.Stations.{lastOf}
 use Rattle.stations.specs.SearchGrid.{gridFor, lastFor}
-use Rattle.sweep.specs.Crossings.{brackets}
+use Rattle.sweep.specs.Crossings.{upTo, brackets}
+use Rattle.sweep.specs.Walks.{firstVoid}
+use Rattle.sweep.specs.declared.walks.Walk.{Walk}
 use Rattle.bisection.specs.declared.Bracket.{Bracket}
 use Rattle.stations.specs.declared.search.Search.{Search}
 use Rattle.stations.specs.declared.side.Side.{Side}
@@ -33,6 +35,10 @@ gridOf p = gridFor (searchOf p)
 -- The index of the last place in this grid.
 abbrev pub lastPlace : Problem → ℕ
 lastPlace p = lastFor (searchOf p)
+
+-- The report about the times at all places of the grid: the first void one in rising x, if there is one.
+unfoldable pub seenOf : Problem → Walk
+seenOf p = firstVoid (sidesOf p) (gridOf p) (upTo (lastPlace p + 1))
 
 -- The brackets of all crossings in rising x.
 unfoldable pub bracketsOf : Problem → List Bracket

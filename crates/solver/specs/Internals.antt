@@ -2,8 +2,8 @@
 use Prim.Native.Nat.{ℕ}
 use mathlib.Core.Bool.{Bool, cond}
 use lib.Dec.{eqb}
-use Rattle.sweep.specs.declared.Walk.{Walk}
-use Rattle.sweep.specs.declared.Walk.the-variants.{AllTimed, SomeVoid, NinthFound}
+use Rattle.sweep.specs.declared.walks.Walk.{Walk}
+use Rattle.sweep.specs.declared.walks.Walk.the-variants.{AllTimed, SomeVoid, NinthFound}
 
 -- 14 if some velocity is not finite, else 0.
 abbrev pub velocityNumber : Bool → ℕ
@@ -13,5 +13,5 @@ velocityNumber finite = cond finite 0 14
 -- there is no refusal.
 abbrev pub lateNumber : Walk → ℕ → Bool → ℕ
 lateNumber AllTimed count finite = cond (eqb count 0) 11 (velocityNumber finite)
-lateNumber SomeVoid count finite = cond (eqb count 0) 12 (velocityNumber finite)
+lateNumber (SomeVoid station) count finite = cond (eqb count 0) 12 (velocityNumber finite)
 lateNumber NinthFound count finite = 13

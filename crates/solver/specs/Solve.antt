@@ -11,8 +11,10 @@ use Rattle.entrance.specs.declared.Problem.{Problem}
 use Rattle.entrance.specs.declared.Judged.{Judged}
 use Rattle.entrance.specs.declared.Judged.the-variants.{Refused, Accepted}
 use Rattle.solver.specs.declared.Outcome.{Outcome}
-use Rattle.solver.specs.declared.Outcome.the-variants.{Refused, Answered}
-use Rattle.solver.specs.Crossed.{entriesOf}
+use Rattle.solver.specs.declared.Outcome.the-variants.{Refused, RefusedVoid, Answered}
+use Rattle.sweep.specs.declared.walks.Walk.{Walk}
+use Rattle.sweep.specs.declared.walks.Walk.the-variants.{AllTimed, SomeVoid, NinthFound}
+use Rattle.solver.specs.Crossed.{seenOf, entriesOf}
 use Rattle.solver.specs.Table.{lateChecks}
 
 -- What a call returns, and what the answer buffer holds after it.
@@ -21,8 +23,15 @@ pub record Solved : Type 0 where
   pub buffer : List ℕ
 
 -- A refusal leaves the buffer untouched.
-abbrev pub refused : ℕ → List ℕ → Solved
-refused number buffer = record { outcome = Refused number; buffer = buffer }
+abbrev pub refused : Outcome → List ℕ → Solved
+refused refusal buffer = record { outcome = refusal; buffer = buffer }
+
+-- The refusal with a number from 11 to 14, given the report about the times at all places. Number 12 also returns the first void place
+-- and the reason why it is void (02, A4).
+abbrev pub lateRefusal : ℕ → Walk → Outcome
+lateRefusal n AllTimed = Refused n
+lateRefusal n (SomeVoid station) = cond (eqb n 12) (RefusedVoid station) (Refused n)
+lateRefusal n NinthFound = Refused n
 
 -- An answer is written at the start of the buffer, and the bytes after it keep their contents.
 abbrev pub answered : Problem → List ℕ → Solved
@@ -33,11 +42,12 @@ answered p buffer = record {
 
 -- The result for a problem that has passed the entrance checks: the first row of 11 to 14 that applies, or its answer.
 unfoldable pub settledOf : Problem → List ℕ → Solved
-settledOf p buffer = let n = firstOf (lateChecks p) in cond (eqb n 0) (answered p buffer) (refused n buffer)
+settledOf p buffer =
+    let n = firstOf (lateChecks p) in cond (eqb n 0) (answered p buffer) (refused (lateRefusal n (seenOf p)) buffer)
 
 -- The result for a question that was judged: the number that the entrance checks gave, or the result for its problem.
 abbrev pub solvedAfter : Judged → List ℕ → Solved
-solvedAfter (Refused number) buffer = refused number buffer
+solvedAfter (Refused number) buffer = refused (Refused number) buffer
 solvedAfter (Accepted p) buffer = settledOf p buffer
 
 -- The result for a question's bytes and an answer buffer.
@@ -47,4 +57,5 @@ solveOf question buffer = solvedAfter (judgeOf question (length buffer)) buffer
 -- The outcome as one number: that of the refusal, or 0 for an answer.
 abbrev pub outcomeNumber : Outcome → ℕ
 outcomeNumber (Refused n) = n
+outcomeNumber (RefusedVoid station) = 12
 outcomeNumber (Answered n) = 0

@@ -8,11 +8,15 @@ mod numbers;
 use entrance::Judged;
 use entrance::Problem;
 use numbers::late_number;
+use numbers::refusal_of;
 use stations::Search;
+use sweep::VoidStation;
 
-// The result of solving a question: the number of its refusal, or how many entries its answer has.
+// The result of solving a question: the number of its refusal, or how many entries its answer has. Refusal 12 is a case of its own. It
+// has the first void station, with the reason why that station is void.
 pub enum Outcome {
     Refused(u16),
+    RefusedVoid(VoidStation),
     Answered(u16),
 }
 
@@ -45,8 +49,9 @@ fn settle(p: Problem, answer: &mut [u8]) -> Outcome
     let finite = entries::all_finite(listed, found.count);
     let number = late_number(walk, found.count, finite);
     if number != 0 {
-        return Outcome::Refused(number);
+        return refusal_of(number, walk);
     }
     entries::write_answer(p.job, p.revision, listed, found.count, answer);
-    Outcome::Answered(found.count as u16)
+    let count = found.count as u16;
+    Outcome::Answered(count)
 }

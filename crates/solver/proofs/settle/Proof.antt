@@ -18,7 +18,7 @@ use Rattle.entries.proofs.Lists.{every-entry}
 use Rattle.solver.specs.Crossed.{sidesOf}
 use Rattle.solver.specs.Table.{lateChecks}
 use Rattle.solver.specs.Internals.{lateNumber}
-use Rattle.solver.specs.Solve.{Solved}
+use Rattle.solver.specs.Solve.{Solved, lateRefusal}
 use Rattle.solver.proofs.Numbering.{found, most-eight, number-is, few, entries-are, count-is, refused-is, answered-is}
 use Rattle.solver.proofs.settle.Statement.{statement}
 use Rattle.solver.proofs.settle.Tie as tie
@@ -73,13 +73,17 @@ all-finite-requires c κs = tt
 late-number-requires : tie.Need-late-number-requires
 late-number-requires c κs = search needs
 
+refusal-of-requires : tie.Need-refusal-of-requires
+refusal-of-requires c κs = search needs
+
 returns : tie.Need-returns
 returns c =
-    let number = c .before in
+    let number = c .before .before in
     let at = number .before .before .before .before in
     let a = at .before .before .before .args in
-    let e = refused-is (a .p) (a .answer .now) (number .late-number .result) (number-at number) (c .if1 .taken) in
-    (sym (ap (λ (s : Solved). s .outcome) e), sym (ap (λ (s : Solved). s .buffer) e))
+    let e = refused-is (a .p) (a .answer .now) (number .late-number .result) (number-at number) (c .before .if1 .taken) in
+    let walk = ap (λ (x : Crossings). lateRefusal (number .late-number .result) (x .walk)) (found-is at) in
+    (c .refusal-of .ensures ∙ walk ∙ sym (ap (λ (s : Solved). s .outcome) e), sym (ap (λ (s : Solved). s .buffer) e))
 
 write-answer-requires : tie.Need-write-answer-requires
 write-answer-requires c κs = tt
@@ -92,8 +96,8 @@ none-at c = c .before .before
 abbrev found-at : tie.After-write-answer → tie.After-find-crossings
 found-at c = none-at c .before .before .before .before .before
 
-cast-t15 : tie.Need-cast-t15
-cast-t15 c = omega (arith, count-most (found-at (c .before .before .before)))
+cast-count : tie.Need-cast-count
+cast-count c = omega (arith, count-most (found-at (c .before .before .before)))
 
 same-length : tie.Need-same-length
 same-length c = search needs
@@ -128,8 +132,9 @@ settle-spec =
     entries-of-requires
     all-finite-requires
     late-number-requires
+    refusal-of-requires
     returns
     write-answer-requires
-    cast-t15
+    cast-count
     same-length
     returns-2)
