@@ -1,68 +1,98 @@
--- Two's complement at 64 bits. Inverting the bits of a negative k gives -(k + 1), which is not negative (`inverted`). The
--- bits of a signed number fit in a word (`signed-lt`), and reading them returns the number (`signed-back`).
-use Prim.Native.Nat.{ℕ, _-_, _<_, _≤_, _^_, suc}
-use mathlib.Core.Path.{_≡_, refl, ap, subst}
+-- Two's complement at every width. Inverting the bits of a negative k gives -(k + 1), which is not negative (`inverted`). The
+-- bits of a signed number fit in a word (`signed-lt`), and reading them returns the number (`signed-back`). The definitions are
+-- the language's own readings `ofZ` and `toZ` (`bits-is`, `signed-is`), so the laws of those readings give most of this.
+use Prim.Native.Nat.{ℕ, _-_, _*_, _<_, _^_, suc}
+use mathlib.Core.Path.{_≡_, refl, sym, ap, _∙_, subst}
 use mathlib.Core.Bool.{Bool, true, false, cond}
 use native.Mathlib.Omega.{arith}
-use borrow.Author.Tests.{lt-ltb, le-ltb, ltb-true}
+use borrow.Author.Tests.{ltb-true}
 use lib.Dec.{T, ltb}
 use lib.IntN.{ℤ, pos, negsuc, natAbs}
 use lib.Signed.{ltZ, nonNeg, mag}
-use mir.Syntax.{w64}
-use mir.Val.{toZ, ofZ, sel, SFits, Fits}
-use Rattle.little_endian.specs.Bytes.{signedBits, signedOf}
-
-small : (n m : ℕ) → n ≡ m → m < 2 ^ 63 → toZ w64 n ≡ pos m
-small n m e h = rw (e, lt-ltb m (2 ^ 63) h) refl
+use mir.Syntax.{Width, w8, w16, w32, w64, w128}
+use mir.Val.{toZ, ofZ, sel, bits, hbits, SFits, Fits}
+use mir.ValLaws.{toZ-pos, toZ-ofZ, ofZ-fits}
+use Rattle.little_endian.specs.Bytes.{twosComplement, fromTwosComplement}
 
 never : (n : ℕ) → ltb n 0 ≡ true → ⊥
 never n e = omega (arith, ltb-true n 0 e)
 
--- Numbers below 0.
-pub inverted : (k : ℤ) → SFits w64 k → ltZ k (pos 0) ≡ true → toZ w64 (18446744073709551615 - ofZ w64 k) ≡ pos (mag k)
-inverted (pos n) f e = absurd (never n e)
-inverted (negsuc n) f e = small (18446744073709551615 - (2 ^ 64 - suc n)) n (omega (arith, f .sfits)) (f .sfits)
+module _ (w : Width) where
+  -- The two readings of the language are those of the definitions.
+  pub bits-is : (k : ℤ) → ofZ w k ≡ twosComplement (bits w) k
+  unfolding twosComplement
+  bits-is (pos n) = refl
+  bits-is (negsuc n) = refl
 
-pub bits-below : (k : ℤ) → ltZ k (pos 0) ≡ true → 18446744073709551615 - mag k ≡ signedBits k
-unfolding signedBits
-bits-below (pos n) e = absurd (never n e)
-bits-below (negsuc n) e = omega arith
+  pub signed-is : (b : ℕ) → toZ w b ≡ fromTwosComplement (bits w) b
+  unfolding fromTwosComplement
+  signed-is b = by (ltb b (2 ^ hbits w)) ∙ ap (λ (n : ℕ). cond (ltb b (2 ^ n)) (pos b) (negsuc (2 ^ bits w - suc b))) (half w)
+    where
+      half : (v : Width) → hbits v ≡ bits v - 1
+      half w8 = refl
+      half w16 = refl
+      half w32 = refl
+      half w64 = refl
+      half w128 = refl
 
--- Numbers from 0 up.
-pub from-zero : (k : ℤ) → ltZ k (pos 0) ≡ false → k ≡ pos (signedBits k)
-unfolding signedBits
-from-zero (pos n) e = refl
-from-zero (negsuc n) e = absurd (subst (λ (b : Bool). T b) e tt)
+      by : (t : Bool) → sel t (pos b) (negsuc (2 ^ bits w - suc b)) ≡ cond t (pos b) (negsuc (2 ^ bits w - suc b))
+      by true = refl
+      by false = refl
 
-pub cast-from-zero : (k : ℤ) → SFits w64 k → ltZ k (pos 0) ≡ false → T (nonNeg k) × Fits w64 (natAbs k)
-cast-from-zero (pos n) f e = (tt, record { fits = omega (arith, f .sfits) })
-cast-from-zero (negsuc n) f e = absurd (subst (λ (b : Bool). T b) e tt)
+  doubled : 2 ^ bits w ≡ 2 * 2 ^ hbits w
+  doubled = by w
+    where
+      by : (v : Width) → 2 ^ bits v ≡ 2 * 2 ^ hbits v
+      by w8 = refl
+      by w16 = refl
+      by w32 = refl
+      by w64 = refl
+      by w128 = refl
 
--- The language's reading of a word as a signed number is `signedOf`.
-pub signed-is : (b : ℕ) → toZ w64 b ≡ signedOf b
-unfolding signedOf
-signed-is b = by (ltb b (2 ^ 63))
-  where
-    by : (t : Bool) → sel t (pos b) (negsuc (2 ^ 64 - suc b)) ≡ cond t (pos b) (negsuc (2 ^ 64 - suc b))
-    by true = refl
-    by false = refl
+  -- Numbers below 0.
+  pub inverted : (k : ℤ) → SFits w k → ltZ k (pos 0) ≡ true → toZ w (2 ^ bits w - 1 - ofZ w k) ≡ pos (mag k)
+  inverted (pos n) f e = absurd (never n e)
+  inverted (negsuc n) f e =
+      let twice : 2 ^ bits w - 1 - (2 ^ bits w - suc n) ≡ n = back (2 ^ bits w) (2 ^ hbits w) doubled (f .sfits) in
+      ap (toZ w) twice ∙ toZ-pos w n (f .sfits)
+    where
+      back : (p h : ℕ) → p ≡ 2 * h → n < h → p - 1 - (p - suc n) ≡ n
+      back p h d l = omega arith
 
-pub inverted-twice : (b : ℕ) → b < 2 ^ 64 → 18446744073709551615 - (18446744073709551615 - b) ≡ b
-inverted-twice b h = omega arith
+  pub bits-below : (k : ℤ) → ltZ k (pos 0) ≡ true → 2 ^ bits w - 1 - mag k ≡ twosComplement (bits w) k
+  unfolding twosComplement
+  bits-below (pos n) e = absurd (never n e)
+  bits-below (negsuc n) e = less (2 ^ bits w)
+    where
+      less : (p : ℕ) → p - 1 - n ≡ p - suc n
+      less p = omega arith
 
--- Reading the bits of a signed number returns the number.
-pub signed-back : (k : ℤ) → SFits w64 k → signedOf (signedBits k) ≡ k
-unfolding signedOf signedBits
-signed-back (pos n) f = rw (lt-ltb n (2 ^ 63) (f .sfits))
-signed-back (negsuc n) f = rw (le-ltb (2 ^ 64 - suc n) (2 ^ 63) (high n (f .sfits))) (ap negsuc (back n (f .sfits)))
-  where
-    high : (m : ℕ) → m < 2 ^ 63 → 2 ^ 63 ≤ 2 ^ 64 - suc m
-    high m h = omega arith
+  -- Numbers from 0 up.
+  pub from-zero : (k : ℤ) → ltZ k (pos 0) ≡ false → k ≡ pos (twosComplement (bits w) k)
+  unfolding twosComplement
+  from-zero (pos n) e = refl
+  from-zero (negsuc n) e = absurd (subst (λ (b : Bool). T b) e tt)
 
-    back : (m : ℕ) → m < 2 ^ 63 → 2 ^ 64 - suc (2 ^ 64 - suc m) ≡ m
-    back m h = omega arith
+  pub cast-from-zero : (k : ℤ) → SFits w k → ltZ k (pos 0) ≡ false → T (nonNeg k) × Fits w (natAbs k)
+  cast-from-zero (pos n) f e = (tt, ofZ-fits w (pos n) f)
+  cast-from-zero (negsuc n) f e = absurd (subst (λ (b : Bool). T b) e tt)
 
-pub signed-lt : (k : ℤ) → SFits w64 k → signedBits k < 2 ^ 64
-unfolding signedBits
-signed-lt (pos n) f = omega (arith, f .sfits)
-signed-lt (negsuc n) f = omega arith
+  -- The magnitude, which is k from 0 up and -(k + 1) below 0, fits in a word.
+  pub mag-fits : (k : ℤ) → SFits w k → Fits w (mag k)
+  mag-fits k f = record { fits = small (2 ^ bits w) (2 ^ hbits w) doubled (f .sfits) }
+    where
+      small : (p h : ℕ) → p ≡ 2 * h → mag k < h → mag k < p
+      small p h d l = omega arith
+
+  pub inverted-twice : (b : ℕ) → b < 2 ^ bits w → 2 ^ bits w - 1 - (2 ^ bits w - 1 - b) ≡ b
+  inverted-twice b h = back (2 ^ bits w) h
+    where
+      back : (p : ℕ) → b < p → p - 1 - (p - 1 - b) ≡ b
+      back p l = omega arith
+
+  -- Reading the bits of a signed number returns the number, and they fit in a word.
+  pub signed-back : (k : ℤ) → SFits w k → fromTwosComplement (bits w) (twosComplement (bits w) k) ≡ k
+  signed-back k f = sym (signed-is (twosComplement (bits w) k)) ∙ ap (toZ w) (sym (bits-is k)) ∙ toZ-ofZ w k f
+
+  pub signed-lt : (k : ℤ) → SFits w k → twosComplement (bits w) k < 2 ^ bits w
+  signed-lt k f = subst (λ (n : ℕ). n < 2 ^ bits w) (bits-is k) (ofZ-fits w k f .fits)

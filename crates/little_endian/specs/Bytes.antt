@@ -20,14 +20,27 @@ unfoldable pub numberAt : ℕ → List ℕ → ℕ → ℕ
 numberAt zero s at = 0
 numberAt (suc w) s at = getD s at 0 + 256 * numberAt w s (at + 1)
 
--- The two's complement of a signed number as a word of 64 bits. `negsuc n` is -(n + 1).
-unfoldable pub signedBits : ℤ → ℕ
-signedBits (pos n) = n
-signedBits (negsuc n) = 2 ^ 64 - suc n
+-- The two's complement of a signed number as a word of w bits. `negsuc n` is -(n + 1).
+unfoldable pub twosComplement : ℕ → ℤ → ℕ
+twosComplement w (pos n) = n
+twosComplement w (negsuc n) = 2 ^ w - suc n
 
--- The signed number that has the two's complement b.
-unfoldable pub signedOf : ℕ → ℤ
-signedOf b = cond (ltb b (2 ^ 63)) (pos b) (negsuc (2 ^ 64 - suc b))
+-- The signed number whose two's complement in w bits is b.
+unfoldable pub fromTwosComplement : ℕ → ℕ → ℤ
+fromTwosComplement w b = cond (ltb b (2 ^ (w - 1))) (pos b) (negsuc (2 ^ w - suc b))
+
+-- Both for words of 64 bits, and then for words of 32 bits.
+abbrev pub signedBits : ℤ → ℕ
+signedBits k = twosComplement 64 k
+
+abbrev pub signedOf : ℕ → ℤ
+signedOf b = fromTwosComplement 64 b
+
+abbrev pub signed32Bits : ℤ → ℕ
+signed32Bits k = twosComplement 32 k
+
+abbrev pub signed32Of : ℕ → ℤ
+signed32Of b = fromTwosComplement 32 b
 
 -- Whether the buffer has room for the bytes.
 unfoldable pub hasRoom : List ℕ → List ℕ → Bool

@@ -13,3 +13,5 @@ pub use typed::u16_at;
 pub use typed::u32_at;
 pub use words::signed_bits;
 pub use words::signed_of;
+pub use words::signed32_bits;
+pub use words::signed32_of;

@@ -15,10 +15,10 @@ cast-result-2 : tie.Need-cast-result-2
 cast-result-2 c = search needs
 
 returns : tie.Need-returns
-returns c = signed-is (c .before .args .b)
+returns c = signed-is w64 (c .before .args .b)
 
 returns-2 : tie.Need-returns-2
-returns-2 c = ap (toZ w64) (inverted-twice (c .before .args .b) (search needs)) ∙ signed-is (c .before .args .b)
+returns-2 c = ap (toZ w64) (inverted-twice w64 (c .before .args .b) (search needs)) ∙ signed-is w64 (c .before .args .b)
 
 pub signed-of-spec : {M : Type 1} → statement M
 signed-of-spec = tie.close (tie.spec cast-result cast-result-2 returns returns-2)
