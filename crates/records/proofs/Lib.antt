@@ -1,5 +1,6 @@
 pub mod Sizes
 pub mod Tables
+pub mod RefusalParts
 pub mod RoundTrip
 pub mod Answers
 pub mod SingleFields

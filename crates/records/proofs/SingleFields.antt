@@ -9,13 +9,18 @@ use native.Mathlib.Omega.{arith}
 use lib.ListN.{length, drop, length-append}
 use Rattle.little_endian.specs.Bytes.{bytesOf, numberAt, signedBits}
 use Rattle.little_endian.proofs.RoundTrip.{number-back}
-use Rattle.records.specs.Layout.{CHOSEN, encode, headFields, entryFields, conflictFields, answerKind, refusalKind, conflictKind}
-use Rattle.records.specs.Layout.{refusalSize, answerSize, conflictSize, mostEntries, lengthFor}
-use Rattle.records.specs.Layout.{kindOf, jobOf, revisionOf, numberOf, sizeOf}
+use Rattle.little_endian.proofs.Same.{number-front}
+use Rattle.records.specs.Layout.{Field, CHOSEN, encode, headFields, entryFields, conflictFields}
+use Rattle.records.specs.Layout.{answerKind, refusalKind, conflictKind, headSize, refusalSize, answerSize, conflictSize}
+use Rattle.records.specs.Layout.{mostEntries, lengthFor}
+use Rattle.records.specs.Layout.{valueOf, kindOf, jobOf, revisionOf, numberOf, sizeOf}
 use Rattle.records.specs.Records.{headBytes, refusalHeadOf, refusalBytes, answerHeadOf, entriesBytes, answerBytes}
 use Rattle.records.specs.Records.{entryNumbers, entryBytes, conflictBytes}
 use Rattle.records.specs.declared.Head.{Head}
+use Rattle.records.specs.declared.Refusal.{Refusal}
 use Rattle.records.specs.declared.Entry.{Entry}
+use Rattle.records.proofs.Sizes.{refusal-length, refusal-between}
+use Rattle.records.proofs.RefusalParts.{afterHead, refusal-parts}
 
 -- ---- a head, with any bytes after it
 
@@ -31,6 +36,17 @@ module _ (h : Head) (rest : List ℕ) where
   unfolding headBytes encode headFields bytesOf
   head-kind l = number-back 2 (h .kind) (bytesOf 4 (h .length)) from-job l
 
+  head-job : h .job < 2 ^ 32 → jobOf (headBytes h ++ rest) ≡ h .job
+  unfolding headBytes encode headFields bytesOf
+  head-job l =
+      number-back 4 (h .job) (bytesOf 4 (h .length) ++ bytesOf 2 (h .kind)) (bytesOf 4 (h .revision) ++ (bytesOf 2 (h .number) ++ rest)) l
+
+  head-revision : h .revision < 2 ^ 32 → revisionOf (headBytes h ++ rest) ≡ h .revision
+  unfolding headBytes encode headFields bytesOf
+  head-revision l =
+      let before = bytesOf 4 (h .length) ++ (bytesOf 2 (h .kind) ++ bytesOf 4 (h .job)) in
+      number-back 4 (h .revision) before (bytesOf 2 (h .number) ++ rest) l
+
   head-number : h .number < 2 ^ 16 → numberOf (headBytes h ++ rest) ≡ h .number
   unfolding headBytes encode headFields bytesOf
   head-number l =
@@ -39,21 +55,37 @@ module _ (h : Head) (rest : List ℕ) where
 
 -- ---- a refusal
 
-module _ (job revision number : ℕ) where
+module _ (r : Refusal) where
   abbrev refusal-head : Head
-  refusal-head = refusalHeadOf job revision number
+  refusal-head = refusalHeadOf r
 
-  pub refusal-size : sizeOf (refusalBytes job revision number) ≡ refusalSize number
-  unfolding refusalBytes refusalHeadOf headBytes encode headFields bytesOf
-  refusal-size = head-size refusal-head [] (omega arith)
+  pub refusal-size : sizeOf (refusalBytes r) ≡ refusalSize (r .number)
+  unfolding refusalHeadOf
+  refusal-size =
+      let between = refusal-between (r .number) in
+      ap sizeOf (refusal-parts r) ∙ head-size refusal-head (afterHead r) (omega arith) ∙ omega arith
 
-  pub refusal-kind : kindOf (refusalBytes job revision number) ≡ refusalKind
-  unfolding refusalBytes refusalHeadOf headBytes encode headFields bytesOf
-  refusal-kind = head-kind refusal-head [] (omega arith)
+  pub refusal-kind : kindOf (refusalBytes r) ≡ refusalKind
+  unfolding refusalHeadOf
+  refusal-kind = ap kindOf (refusal-parts r) ∙ head-kind refusal-head (afterHead r) (omega arith)
 
-  pub refusal-number : number < 2 ^ 16 → numberOf (refusalBytes job revision number) ≡ number
-  unfolding refusalBytes refusalHeadOf headBytes encode headFields bytesOf
-  refusal-number l = head-number refusal-head [] l
+  pub refusal-job : r .job < 2 ^ 32 → jobOf (refusalBytes r) ≡ r .job
+  unfolding refusalHeadOf
+  refusal-job l = ap jobOf (refusal-parts r) ∙ head-job refusal-head (afterHead r) l
+
+  pub refusal-revision : r .revision < 2 ^ 32 → revisionOf (refusalBytes r) ≡ r .revision
+  unfolding refusalHeadOf
+  refusal-revision l = ap revisionOf (refusal-parts r) ∙ head-revision refusal-head (afterHead r) l
+
+  pub refusal-number : r .number < 2 ^ 16 → numberOf (refusalBytes r) ≡ r .number
+  unfolding refusalHeadOf
+  refusal-number l = ap numberOf (refusal-parts r) ∙ head-number refusal-head (afterHead r) l
+
+  -- A field of the head has the same value if more bytes follow the refusal.
+  pub refusal-front : (f : Field) (rest : List ℕ) → f .offset + f .width ≤ headSize →
+      valueOf f (refusalBytes r ++ rest) ≡ valueOf f (refusalBytes r)
+  refusal-front f rest within =
+      number-front (f .width) (f .offset) (refusalBytes r) rest (omega (arith, refusal-length r, refusal-between (r .number)))
 
 -- ---- an answer
 

@@ -4,8 +4,8 @@ use mathlib.Core.Path.{_≡_, refl}
 use mathlib.Core.Bool.{true}
 use mathlib.Core.List.{[], _∷_}
 use Prim.Native.Nat.{_-_}
-use Rattle.records.specs.Layout.{LENGTH, questionFields, headFields, entryFields, conflictFields, questionLengths, questionSize}
-use Rattle.records.specs.Layout.{headSize, entrySize, conflictSize, tiles}
+use Rattle.records.specs.Layout.{LENGTH, questionFields, headFields, voidRefusalFields, entryFields, conflictFields, questionLengths}
+use Rattle.records.specs.Layout.{questionSize, headSize, voidRefusalSize, entrySize, conflictSize, tiles}
 
 pub question-tiles : tiles 0 questionFields questionSize ≡ true
 unfolding tiles questionFields
@@ -14,6 +14,10 @@ question-tiles = refl
 pub head-tiles : tiles 0 headFields headSize ≡ true
 unfolding tiles headFields
 head-tiles = refl
+
+pub void-refusal-tiles : tiles 0 voidRefusalFields voidRefusalSize ≡ true
+unfolding tiles voidRefusalFields
+void-refusal-tiles = refl
 
 pub entry-tiles : tiles 0 entryFields entrySize ≡ true
 unfolding tiles entryFields

@@ -1,7 +1,8 @@
 -- The values of the code's public constants according to the layout. The contract of
 -- `public_constants` cites them. Definitions only.
 use Rattle.records.specs.Layout.{LENGTH, questionKind, answerKind, refusalKind, conflictKind, questionSize, questionLength}
-use Rattle.records.specs.Layout.{questionRoom, headSize, entrySize, mostEntries, answerRoom, conflictSize, firstNumber, lastNumber}
+use Rattle.records.specs.Layout.{questionRoom, headSize, voidRefusalSize, entrySize, mostEntries, answerRoom, conflictSize}
+use Rattle.records.specs.Layout.{firstNumber, voidNumber, lastNumber}
 use Rattle.records.specs.declared.Constants.{Constants}
 
 abbrev pub layoutConstants : Constants
@@ -15,10 +16,12 @@ layoutConstants = record {
   «question_length» = questionLength;
   «question_room» = questionRoom;
   «head_size» = headSize;
+  «void_refusal_size» = voidRefusalSize;
   «entry_size» = entrySize;
   «most_entries» = mostEntries;
   «answer_room» = answerRoom;
   «conflict_size» = conflictSize;
   «first_number» = firstNumber;
+  «void_number» = voidNumber;
   «last_number» = lastNumber;
 }

@@ -1,9 +1,9 @@
 -- The layout of the question, the answer's head and its entries, the refusal, and the conflict of a board's slot (01, Records
--- on the wire; 02, A1). This file alone defines the offset and width of each field in bytes, and every size, length and kind
+-- on the wire; 02, A1 and A4). This file alone defines the offset and width of each field in bytes, and every size, length and kind
 -- by name. Definitions only. The contracts of the code tie its tables of widths and its constants to these definitions.
 -- `tiles` tests that a table has no gap and no overlap.
 use Prim.Native.Nat.{ℕ, _+_, _-_, _*_}
-use mathlib.Core.Bool.{Bool, _&&_}
+use mathlib.Core.Bool.{Bool, _&&_, cond}
 use mathlib.Core.List.{List, [], _∷_, _++_}
 use lib.Dec.{eqb}
 use Rattle.little_endian.specs.Bytes.{bytesOf, numberAt}
@@ -68,6 +68,13 @@ TIME = field 74 8
 abbrev pub NUMBER : Field
 NUMBER = field 14 2
 
+-- The fields at the end of a refusal with number 12, and of no other: j of the first void station, and the reason why it is void.
+abbrev pub STATION : Field
+STATION = field 16 4
+
+abbrev pub REASON : Field
+REASON = field 20 2
+
 -- The fields of an entry of an answer: the lower end of the bracket, the halvings, the chosen end
 -- (0 lower, 1 upper), and the velocities v1 and v2.
 abbrev pub LOWER : Field
@@ -105,6 +112,9 @@ questionFields =
 unfoldable pub headFields : List Field
 headFields = LENGTH ∷ KIND ∷ JOB ∷ REVISION ∷ NUMBER ∷ []
 
+unfoldable pub voidRefusalFields : List Field
+voidRefusalFields = LENGTH ∷ KIND ∷ JOB ∷ REVISION ∷ NUMBER ∷ STATION ∷ REASON ∷ []
+
 unfoldable pub entryFields : List Field
 entryFields = LOWER ∷ HALVINGS ∷ CHOSEN ∷ V1X ∷ V1Y ∷ V1Z ∷ V2X ∷ V2Y ∷ V2Z ∷ []
 
@@ -124,13 +134,16 @@ refusalKind = 3
 abbrev pub conflictKind : ℕ
 conflictKind = 4
 
--- The sizes in bytes of a question, an answer's head, an entry and a conflict. Each table of fields ends at this size
--- (proofs/Tables.antt).
+-- The sizes in bytes of a question, an answer's head, a refusal with number 12, an entry and a conflict. Each table of
+-- fields ends at this size (proofs/Tables.antt).
 abbrev pub questionSize : ℕ
 questionSize = 82
 
 abbrev pub headSize : ℕ
 headSize = 16
+
+abbrev pub voidRefusalSize : ℕ
+voidRefusalSize = 22
 
 abbrev pub entrySize : ℕ
 entrySize = 64
@@ -138,9 +151,16 @@ entrySize = 64
 abbrev pub conflictSize : ℕ
 conflictSize = 14
 
--- The size of a refusal with the given number. Every refusal consists of the head alone.
+-- The number of the refusal "no crossing, at least one station void". It alone names a station and a reason.
+abbrev pub voidNumber : ℕ
+voidNumber = 12
+
+-- The fields and the size of a refusal with the given number. Every refusal but number 12 consists of the head alone.
+abbrev pub refusalFields : ℕ → List Field
+refusalFields number = cond (eqb number voidNumber) voidRefusalFields headFields
+
 abbrev pub refusalSize : ℕ → ℕ
-refusalSize number = headSize
+refusalSize number = cond (eqb number voidNumber) voidRefusalSize headSize
 
 -- The size of an answer with n entries. This is also the offset of the entry of index n.
 abbrev pub answerSize : ℕ → ℕ
@@ -180,7 +200,12 @@ lastNumber = 14
 abbrev pub valueOf : Field → List ℕ → ℕ
 valueOf f s = numberAt (f .width) s (f .offset)
 
--- The bytes of a record whose fields have the given values.
+-- The widths of the fields, in their order.
+unfoldable pub widthsOf : List Field → List ℕ
+widthsOf [] = []
+widthsOf (f ∷ fs) = f .width ∷ widthsOf fs
+
+-- The bytes of a record whose fields have the given values. Values that have no field are left out.
 unfoldable pub encode : List Field → List ℕ → List ℕ
 encode [] vs = []
 encode (f ∷ fs) [] = []

@@ -1,16 +1,21 @@
--- The record that the given bytes hold, and the bytes of each record (01, Records on the wire; 02, A1). Definitions only.
+-- The record that the given bytes hold, and the bytes of each record (01, Records on the wire; 02, A1 and A4). Definitions only.
 use Prim.Native.Nat.{ℕ, _+_}
+use mathlib.Core.Bool.{cond}
 use mathlib.Core.List.{List, [], _∷_, _++_}
+use lib.Dec.{eqb}
+use lib.IntN.{pos}
 use lib.ListN.{length}
 use Rattle.float64.specs.Notation.{bits, bitsOf}
 use Rattle.float64.specs.declared.Vector.{Vector}
-use Rattle.little_endian.specs.Bytes.{signedBits, signedOf}
+use Rattle.little_endian.specs.Bytes.{signedBits, signedOf, signed32Bits, signed32Of}
 use Rattle.records.specs.Layout.{Field, LENGTH, KIND, JOB, REVISION, REVOLUTIONS, WAY, SPARE, R1X, R1Y, R1Z, R2X, R2Y, R2Z, MU}
-use Rattle.records.specs.Layout.{TIME, NUMBER, LOWER, HALVINGS, CHOSEN, V1X, V1Y, V1Z, V2X, V2Y, V2Z, questionFields, headFields}
-use Rattle.records.specs.Layout.{entryFields, conflictFields, answerKind, refusalKind, conflictKind, refusalSize, answerSize}
-use Rattle.records.specs.Layout.{conflictSize, lengthFor, valueOf, encode}
+use Rattle.records.specs.Layout.{TIME, NUMBER, STATION, REASON, LOWER, HALVINGS, CHOSEN, V1X, V1Y, V1Z, V2X, V2Y, V2Z}
+use Rattle.records.specs.Layout.{questionFields, headFields, refusalFields, entryFields, conflictFields}
+use Rattle.records.specs.Layout.{answerKind, refusalKind, conflictKind, voidNumber, refusalSize, answerSize, conflictSize}
+use Rattle.records.specs.Layout.{lengthFor, valueOf, encode}
 use Rattle.records.specs.declared.Question.{Question}
 use Rattle.records.specs.declared.Head.{Head}
+use Rattle.records.specs.declared.Refusal.{Refusal}
 use Rattle.records.specs.declared.Entry.{Entry}
 
 -- The vector in three f64 fields.
@@ -57,7 +62,7 @@ questionNumbers q =
 unfoldable pub questionBytes : Question → List ℕ
 questionBytes q = encode questionFields (questionNumbers q)
 
--- The head that the bytes hold: the 16 bytes of a refusal, or the first 16 bytes of an answer.
+-- The head that the bytes hold: the first 16 bytes of a refusal or of an answer.
 unfoldable pub headOf : List ℕ → Head
 headOf s = record {
   length = valueOf LENGTH s;
@@ -75,16 +80,6 @@ headNumbers h = h .length ∷ h .kind ∷ h .job ∷ h .revision ∷ h .number �
 unfoldable pub headBytes : Head → List ℕ
 headBytes h = encode headFields (headNumbers h)
 
--- The head of a refusal with the given number.
-unfoldable pub refusalHeadOf : ℕ → ℕ → ℕ → Head
-refusalHeadOf job revision number = record {
-  length = lengthFor (refusalSize number);
-  kind = refusalKind;
-  job = job;
-  revision = revision;
-  number = number;
-}
-
 -- The head of an answer with n entries.
 unfoldable pub answerHeadOf : ℕ → ℕ → ℕ → Head
 answerHeadOf job revision n = record {
@@ -95,9 +90,49 @@ answerHeadOf job revision n = record {
   number = n;
 }
 
--- The bytes of a whole refusal.
-unfoldable pub refusalBytes : ℕ → ℕ → ℕ → List ℕ
-refusalBytes job revision number = headBytes (refusalHeadOf job revision number)
+-- The refusal with 0 as station and reason.
+abbrev pub refusalWith : ℕ → ℕ → ℕ → Refusal
+refusalWith job revision number = record { job = job; revision = revision; number = number; station = pos 0; reason = 0 }
+
+-- The refusal that the bytes hold. Station and reason are 0 if the number is another than 12.
+unfoldable pub refusalOf : List ℕ → Refusal
+refusalOf s =
+    let number = valueOf NUMBER s in
+    cond (eqb number voidNumber)
+    (record {
+      job = valueOf JOB s;
+      revision = valueOf REVISION s;
+      number = number;
+      station = signed32Of (valueOf STATION s);
+      reason = valueOf REASON s;
+    })
+    (refusalWith (valueOf JOB s) (valueOf REVISION s) number)
+
+-- The values of a refusal's fields, in their order. Only a refusal with number 12 has fields for the last two.
+abbrev pub refusalNumbers : Refusal → List ℕ
+refusalNumbers r =
+    lengthFor (refusalSize (r .number))
+    ∷ refusalKind
+    ∷ r .job
+    ∷ r .revision
+    ∷ r .number
+    ∷ signed32Bits (r .station)
+    ∷ r .reason
+    ∷ []
+
+-- The bytes of a refusal.
+unfoldable pub refusalBytes : Refusal → List ℕ
+refusalBytes r = encode (refusalFields (r .number)) (refusalNumbers r)
+
+-- The head with which the bytes of a refusal begin.
+unfoldable pub refusalHeadOf : Refusal → Head
+refusalHeadOf r = record {
+  length = lengthFor (refusalSize (r .number));
+  kind = refusalKind;
+  job = r .job;
+  revision = r .revision;
+  number = r .number;
+}
 
 -- The values of a conflict's fields, for a job at a revision.
 abbrev pub conflictNumbers : ℕ → ℕ → List ℕ

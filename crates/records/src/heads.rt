@@ -1,15 +1,14 @@
-// A refusal (kind 3), and the head of an answer (kind 2).
+// The head of an answer (kind 2) and of a refusal (kind 3).
 ghost use mathlib.Core.Path.{_≡_};
 ghost use Rattle.little_endian.specs.Bytes.{hasRoom, written};
 ghost use Rattle.little_endian.specs.Tables.{inPlaces};
-ghost use Rattle.records.specs.Layout.{refusalSize, answerSize};
-ghost use Rattle.records.specs.Records.{headOf, headNumbers, headBytes, refusalHeadOf, refusalBytes, answerHeadOf};
+ghost use Rattle.records.specs.Layout.{answerSize};
+ghost use Rattle.records.specs.Records.{headOf, headNumbers, headBytes, answerHeadOf};
 use crate::ANSWER_KIND;
 use crate::ENTRY_SIZE;
 use crate::HEAD_SIZE;
 use crate::Head;
 use crate::LENGTH_SIZE;
-use crate::REFUSAL_KIND;
 use little_endian::PLACES;
 use little_endian::put_numbers;
 use little_endian::u16_at;
@@ -64,40 +63,12 @@ fn numbers_of(h: Head) -> [u64; PLACES]
     ]
 }
 
-// Returns the size of a refusal with the given number.
-pub fn refusal_size(number: u16) -> usize
-    ensures { λ r. ⌜ r ≡ refusalSize number ⌝ }
-{
-    HEAD_SIZE
-}
-
 // Returns the size of an answer with the given number of entries. This is also
 // the offset at which one more entry would start.
 pub fn answer_size(entries: u16) -> usize
     ensures { λ r. ⌜ r ≡ answerSize entries ⌝ }
 {
     HEAD_SIZE + ENTRY_SIZE * (entries as usize)
-}
-
-// Returns the head of a refusal with the given number.
-fn refusal_head(job: u32, revision: u32, number: u16) -> Head
-    ensures { λ r. ⌜ r ≡ refusalHeadOf job revision number ⌝ }
-{
-    Head {
-        length: (refusal_size(number) - LENGTH_SIZE) as u32,
-        kind: REFUSAL_KIND,
-        job,
-        revision,
-        number,
-    }
-}
-
-// Writes a refusal with the given number and returns true. If there is no room, it changes nothing and returns false.
-pub fn write_refusal(out: &mut [u8], job: u32, revision: u32, number: u16) -> bool
-    ensures room { λ r. ⌜ r ≡ hasRoom (now (out .entry)) (refusalBytes job revision number) ⌝ }
-    ensures bytes { λ _. ⌜ now (out .exit) ≡ written (now (out .entry)) (refusalBytes job revision number) ⌝ }
-{
-    write_head(out, refusal_head(job, revision, number))
 }
 
 // Returns the head of an answer with the given number of entries.

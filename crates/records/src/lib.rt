@@ -1,4 +1,4 @@
-// Reading and writing the records of 01, and the conflict of a board's slot (02, A1). Reading accepts any bytes, and
+// Reading and writing the records of 01 and 02, and the conflict of a board's slot (02, A1). Reading accepts any bytes, and
 // a byte past the end counts as 0. Writing starts at the first byte of the buffer. If the buffer is too short, a
 // write changes nothing and returns false.
 ghost use mathlib.Core.Path.{_≡_};
@@ -10,6 +10,7 @@ mod fields;
 mod floats;
 mod heads;
 mod questions;
+mod refusals;
 
 pub use answer_entries::read_entry;
 pub use answer_entries::write_entry;
@@ -25,11 +26,13 @@ use float64::Vector;
 pub use heads::answer_head;
 pub use heads::answer_size;
 pub use heads::read_head;
-pub use heads::refusal_size;
 pub use heads::write_head;
-pub use heads::write_refusal;
 pub use questions::read_question;
 pub use questions::write_question;
+pub use refusals::read_refusal;
+pub use refusals::refusal_size;
+pub use refusals::refusal_with;
+pub use refusals::write_refusal;
 
 // The kinds of records. A conflict occurs only in the slots of a board.
 pub const QUESTION_KIND: u16 = 1;
@@ -50,9 +53,12 @@ pub const QUESTION_LENGTH: u32 = (QUESTION_SIZE - LENGTH_SIZE) as u32;
 
 pub const QUESTION_ROOM: usize = QUESTION_SIZE;
 
-// The sizes of an answer's head and of an entry, the greatest number of entries, and
-// the sizes of the longest answer and of a conflict.
+// The sizes of an answer's head, of a refusal with number 12 and of an entry, the greatest
+// number of entries, and the sizes of the longest answer and of a conflict. Every other
+// refusal has the size of a head.
 pub const HEAD_SIZE: usize = 16;
+
+pub const VOID_REFUSAL_SIZE: usize = 22;
 
 pub const ENTRY_SIZE: usize = 64;
 
@@ -66,6 +72,9 @@ pub const CONFLICT_SIZE: usize = 14;
 pub const FIRST_NUMBER: u16 = 1;
 
 pub const LAST_NUMBER: u16 = 14;
+
+// The number of the refusal "no crossing, at least one station void".
+pub const VOID_NUMBER: u16 = 12;
 
 // A question (kind 1). `way` is 0 for the short way and 1 for the long way. The positions
 // r1 and r2 are in km, `mu` in km^3/s^2 and `time` in s.
@@ -83,7 +92,7 @@ pub struct Question {
     pub time: f64,
 }
 
-// A refusal (kind 3), or the head of an answer (kind 2). `number` is the number of the
+// The head of a refusal (kind 3) or of an answer (kind 2). `number` is the number of the
 // refusal, or the number of entries of the answer.
 pub struct Head {
     pub length: u32,
@@ -91,6 +100,16 @@ pub struct Head {
     pub job: u32,
     pub revision: u32,
     pub number: u16,
+}
+
+// A refusal (kind 3). `station` is j of the first void station and `reason` says why it is void. Only a refusal with
+// number 12 has both on the wire. For any other number reading gives 0 for both, and writing leaves both out.
+pub struct Refusal {
+    pub job: u32,
+    pub revision: u32,
+    pub number: u16,
+    pub station: i32,
+    pub reason: u16,
 }
 
 // An entry of an answer: the lower end of the bracket, the number of halvings, the chosen end (0 is the lower end, 1
@@ -114,11 +133,13 @@ struct Constants {
     question_length: u32,
     question_room: usize,
     head_size: usize,
+    void_refusal_size: usize,
     entry_size: usize,
     most_entries: usize,
     answer_room: usize,
     conflict_size: usize,
     first_number: u16,
+    void_number: u16,
     last_number: u16,
 }
 
@@ -137,11 +158,13 @@ fn public_constants() -> Constants
         question_length: QUESTION_LENGTH,
         question_room: QUESTION_ROOM,
         head_size: HEAD_SIZE,
+        void_refusal_size: VOID_REFUSAL_SIZE,
         entry_size: ENTRY_SIZE,
         most_entries: MOST_ENTRIES,
         answer_room: ANSWER_ROOM,
         conflict_size: CONFLICT_SIZE,
         first_number: FIRST_NUMBER,
+        void_number: VOID_NUMBER,
         last_number: LAST_NUMBER,
     }
 }

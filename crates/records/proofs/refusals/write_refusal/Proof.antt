@@ -1,24 +1,47 @@
--- `heads::write_refusal` meets its contract: the bytes of a refusal are those of its head.
-use Rattle.records.specs.Records.{refusalBytes}
+-- `refusals::write_refusal` meets its contract: the numbers, each stored in the width
+-- that the table gives, are the refusal's bytes.
+use mathlib.Core.Path.{_≡_, refl, sym, ap, _∙_}
+use mathlib.Core.Bool.{Bool, true, false, cond}
+use lib.Dec.{eqb}
+use Rattle.little_endian.specs.Bytes.{bytesOf}
+use Rattle.little_endian.specs.Tables.{inPlaces, packed}
+use Rattle.records.specs.Layout.{encode, widthsOf, headFields, voidRefusalFields, refusalFields, voidNumber}
+use Rattle.records.specs.Records.{refusalNumbers, refusalBytes}
+use Rattle.records.specs.declared.Refusal.{Refusal}
 use borrow.Author.Needs.{needs}
-use Rattle.records.proofs.heads.write_refusal.Statement.{statement}
-use Rattle.records.proofs.heads.write_refusal.Tie as tie
+use Rattle.records.proofs.refusals.write_refusal.Statement.{statement}
+use Rattle.records.proofs.refusals.write_refusal.Tie as tie
 
-refusal-head-requires : tie.Need-refusal-head-requires
-refusal-head-requires c κs = tt
+stored : (r : Refusal) → packed (inPlaces (widthsOf (refusalFields (r .number)))) (inPlaces (refusalNumbers r)) ≡ refusalBytes r
+unfolding refusalBytes encode widthsOf headFields voidRefusalFields packed bytesOf
+stored r = by (eqb (r .number) voidNumber)
+  where
+    by : (b : Bool) →
+        let fields = cond b voidRefusalFields headFields in
+        packed (inPlaces (widthsOf fields)) (inPlaces (refusalNumbers r)) ≡ encode fields (refusalNumbers r)
+    by true = refl
+    by false = refl
 
-write-head-requires : tie.Need-write-head-requires
-write-head-requires c κs = tt
+widths-of-requires : tie.Need-widths-of-requires
+widths-of-requires c κs = tt
+
+numbers-of-requires : tie.Need-numbers-of-requires
+numbers-of-requires c κs = tt
+
+put-numbers-requires : tie.Need-put-numbers-requires
+put-numbers-requires c κs = tt
 
 same-length : tie.Need-same-length
 same-length c = search needs
 
 returns : tie.Need-returns
-unfolding refusalBytes
 returns c =
-    let head = c .before .before .before .refusal-head .ensures in
-    simp head at (c .before .before .write-head .ensures)
+    let put = c .before .before in
+    let numbers = put .before in
+    let widths = numbers .before in
+    simp (numbers .numbers-of .ensures, widths .widths-of .ensures, stored) at (put .put-numbers .ensures)
 
 pub write-refusal-spec : {M : Type 1} → statement M
 write-refusal-spec =
-    tie.close (tie.spec refusal-head-requires write-head-requires same-length returns)
+    tie.close
+    (tie.spec widths-of-requires numbers-of-requires put-numbers-requires same-length returns)
