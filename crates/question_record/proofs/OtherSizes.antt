@@ -4,12 +4,12 @@ use mathlib.Core.List.{List}
 use Prim.Native.Nat.{ℕ}
 use borrow.Author.Tests.{ne-eqb}
 use lib.ListN.{length}
-use Rattle.question_record.specs.Record.{refusalRecord, recordOf}
+use Rattle.question_record.specs.Record.{refusalFor, recordOf}
 use Rattle.records.specs.Layout.{questionSize}
-use Rattle.records.specs.Records.{refusalBytes}
+use Rattle.records.specs.Records.{refusalWith, refusalBytes}
 use Rattle.entrance.specs.Conditions.{malformed}
 use Rattle.entrance.specs.Judge.{checks, firstOf, judgeOf}
 
-pub other-size : (s : List ℕ) → (length s ≡ questionSize → ⊥) → recordOf s ≡ refusalBytes 0 0 1
-unfolding recordOf judgeOf checks malformed firstOf refusalRecord
+pub other-size : (s : List ℕ) → (length s ≡ questionSize → ⊥) → recordOf s ≡ refusalBytes (refusalWith 0 0 1)
+unfolding recordOf judgeOf checks malformed firstOf refusalFor
 other-size s h = rw (ne-eqb (length s) questionSize h)

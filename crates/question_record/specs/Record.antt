@@ -5,25 +5,44 @@ use mathlib.Core.List.{List}
 use lib.Dec.{eqb, ltb}
 use lib.ListN.{length}
 use Rattle.little_endian.specs.Bytes.{written}
-use Rattle.records.specs.Layout.{answerRoom, jobOf, revisionOf}
-use Rattle.records.specs.Records.{refusalBytes, answerBytes}
-use Rattle.entrance.specs.Judge.{firstOf, judgeOf}
+use Rattle.records.specs.Layout.{answerRoom, voidNumber, jobOf, revisionOf}
+use Rattle.records.specs.Records.{refusalWith, refusalBytes, answerBytes}
+use Rattle.records.specs.declared.Refusal.{Refusal}
+use Rattle.hypergeometric.specs.Reasons.{reasonNumber}
+use Rattle.sweep.specs.declared.walks.VoidStation.{VoidStation}
+use Rattle.entrance.specs.Judge.{judgeOf}
+use Rattle.entrance.specs.declared.Problem.{Problem}
 use Rattle.entrance.specs.declared.Judged.{Judged}
 use Rattle.entrance.specs.declared.Judged.the-variants.{Refused, Accepted}
+use Rattle.solver.specs.declared.Outcome.{Outcome}
+use Rattle.solver.specs.declared.Outcome.the-variants.{Refused, RefusedVoid, Answered}
 use Rattle.solver.specs.Crossed.{entriesOf}
-use Rattle.solver.specs.Table.{lateChecks}
+use Rattle.solver.specs.Solve.{outcomeFor}
 
--- The record of a refused question has its job and revision, or 0 for both if the number is 1.
-unfoldable pub refusalRecord : List ℕ → ℕ → List ℕ
-refusalRecord question n =
-    cond (eqb n 1) (refusalBytes 0 0 n) (refusalBytes (jobOf question) (revisionOf question) n)
+-- The refusal of a question with a number other than 12. It has the question's job and revision, or 0 for both if the number is 1.
+unfoldable pub refusalFor : List ℕ → ℕ → Refusal
+refusalFor question n = cond (eqb n 1) (refusalWith 0 0 n) (refusalWith (jobOf question) (revisionOf question) n)
+
+-- The refusal of a question with number 12. It also has the j of the first void station, and the number of the reason (02, A4).
+unfoldable pub voidRefusalFor : List ℕ → VoidStation → Refusal
+voidRefusalFor question void = record {
+  job = jobOf question;
+  revision = revisionOf question;
+  number = voidNumber;
+  station = void .j;
+  reason = reasonNumber (void .reason);
+}
+
+-- The record of a question whose problem has the given outcome.
+abbrev pub outcomeRecord : List ℕ → Problem → Outcome → List ℕ
+outcomeRecord question p (Answered n) = answerBytes (p .job) (p .revision) (entriesOf p)
+outcomeRecord question p (Refused n) = refusalBytes (refusalFor question n)
+outcomeRecord question p (RefusedVoid station) = refusalBytes (voidRefusalFor question station)
 
 -- The record of a question, given the verdict of the entrance checks.
 abbrev pub recordAfter : List ℕ → Judged → List ℕ
-recordAfter question (Refused n) = refusalRecord question n
-recordAfter question (Accepted p) =
-    let n = firstOf (lateChecks p) in
-    cond (eqb n 0) (answerBytes (p .job) (p .revision) (entriesOf p)) (refusalRecord question n)
+recordAfter question (Refused n) = refusalBytes (refusalFor question n)
+recordAfter question (Accepted p) = outcomeRecord question p (outcomeFor p)
 
 -- The record of a question, judged with room for the longest answer.
 unfoldable pub recordOf : List ℕ → List ℕ

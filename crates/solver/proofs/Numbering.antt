@@ -1,6 +1,6 @@
 -- The number that the code finds is that of the first row of 11 to 14 that applies (`number-is`), and the refusal that it makes from the
 -- sweep's report is the refusal of that row (`refusal-is`). If no row applies, the sweep lists every bracket (`few`, `entries-are`,
--- `count-is`).
+-- `count-is`). `refused-is`, `answered-is` and `untouched` say what follows for the outcome and for the buffer.
 use mathlib.Core.Path.{_≡_, refl, sym, ap, _∙_}
 use mathlib.Core.Bool.{Bool, true, false, cond, not, _&&_}
 use mathlib.Core.List.{List, map}
@@ -9,11 +9,13 @@ use native.Mathlib.Omega.{arith}
 use borrow.Author.Tests.{ltb-true, ltb-false, ne-eqb}
 use lib.Dec.{eqb, ltb}
 use lib.ListN.{length, take, length-map}
+use Rattle.records.specs.Layout.{voidNumber}
 use Rattle.entrance.specs.Judge.{firstOf}
 use Rattle.entrance.specs.declared.Problem.{Problem}
 use Rattle.sweep.specs.Crossings.{upTo, someVoid, reported, sweepOf}
 use Rattle.sweep.specs.Walks.{walkOf}
 use Rattle.sweep.specs.declared.Crossings.{Crossings}
+use Rattle.sweep.specs.declared.walks.VoidStation.{VoidStation}
 use Rattle.sweep.specs.declared.walks.Walk.{Walk}
 use Rattle.sweep.specs.declared.walks.Walk.the-variants.{AllTimed, SomeVoid, NinthFound}
 use Rattle.sweep.proofs.Counts.{counted, length-is, all-listed}
@@ -22,8 +24,8 @@ use Rattle.entries.specs.Entries.{entryFor, finiteFor, every}
 use Rattle.solver.specs.Crossed.{sidesOf, gridOf, lastPlace, seenOf, bracketsOf, entriesOf}
 use Rattle.solver.specs.Table.{crossingCount, anyVoid, allFinite, lateChecks}
 use Rattle.solver.specs.Internals.{lateNumber}
-use Rattle.solver.specs.Solve.{refused, lateRefusal, answered, settledOf}
-use Rattle.solver.specs.declared.Outcome.{Outcome}
+use Rattle.solver.specs.Solve.{lateRefusal, outcomeFor, bufferAfter}
+use Rattle.solver.specs.declared.Outcome.the-variants.{Refused, RefusedVoid, Answered}
 
 -- The rows as a chain of conditions.
 abbrev pub rows : Bool → Bool → Bool → Bool → ℕ
@@ -130,16 +132,25 @@ module _ (p : Problem) where
   unfolding entriesOf bracketsOf
   count-is h = few-count h ∙ sym (length-map (bracketsOf p) (entryFor p) ∙ length-is (sidesOf p) (gridOf p) (lastPlace p))
 
-  -- ---- The result for the problem
+  -- ---- The outcome for the problem, and the buffer after it
 
-  module _ (buffer : List ℕ) where
-    pub refused-is : (n : ℕ) → n ≡ firstOf (lateChecks p) → (n ≡ 0 → ⊥) →
-        settledOf p buffer ≡ refused (lateRefusal n (found .walk)) buffer
-    unfolding settledOf
-    refused-is n e f =
-        let some : eqb (firstOf (lateChecks p)) 0 ≡ false = rw (← e) (ne-eqb n 0 f) in
-        rw some (ap (λ (r : Outcome). refused r buffer) (sym (refusal-is n e)))
+  pub refused-is : (n : ℕ) → n ≡ firstOf (lateChecks p) → (n ≡ 0 → ⊥) → outcomeFor p ≡ lateRefusal n (found .walk)
+  unfolding outcomeFor
+  refused-is n e f =
+      let some : eqb (firstOf (lateChecks p)) 0 ≡ false = rw (← e) (ne-eqb n 0 f) in
+      rw some (sym (refusal-is n e))
 
-    pub answered-is : firstOf (lateChecks p) ≡ 0 → settledOf p buffer ≡ answered p buffer
-    unfolding settledOf
-    answered-is e = rw e
+  pub answered-is : firstOf (lateChecks p) ≡ 0 → outcomeFor p ≡ Answered (length (entriesOf p))
+  unfolding outcomeFor
+  answered-is e = rw e
+
+  untouched-by : (void : Bool) (station : VoidStation) (n : ℕ) (buffer : List ℕ) →
+      bufferAfter p (cond void (RefusedVoid station) (Refused n)) buffer ≡ buffer
+  untouched-by true station n buffer = refl
+  untouched-by false station n buffer = refl
+
+  -- A refusal leaves the buffer untouched.
+  pub untouched : (n : ℕ) (walk : Walk) (buffer : List ℕ) → bufferAfter p (lateRefusal n walk) buffer ≡ buffer
+  untouched n AllTimed buffer = refl
+  untouched n (SomeVoid station) buffer = untouched-by (eqb n voidNumber) station n buffer
+  untouched n NinthFound buffer = refl

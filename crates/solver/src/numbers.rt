@@ -3,6 +3,7 @@ ghost use mathlib.Core.Path.{_≡_};
 ghost use Rattle.solver.specs.Internals.{velocityNumber, lateNumber};
 ghost use Rattle.solver.specs.Solve.{lateRefusal};
 use crate::Outcome;
+use records::VOID_NUMBER;
 use sweep::Walk;
 
 // Returns the number of the first row from 11 to 14 in 01's table that applies, or 0 if none does. The sweep has given `walk` and
@@ -42,7 +43,7 @@ pub(crate) fn refusal_of(number: u16, walk: Walk) -> Outcome
     match walk {
         Walk::AllTimed => Outcome::Refused(number),
         Walk::SomeVoid(station) => {
-            if number == 12 {
+            if number == VOID_NUMBER {
                 Outcome::RefusedVoid(station)
             } else {
                 Outcome::Refused(number)

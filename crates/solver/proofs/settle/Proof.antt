@@ -12,14 +12,16 @@ use Rattle.records.specs.declared.Entry.{Entry}
 use Rattle.entrance.specs.Judge.{firstOf}
 use Rattle.entrance.specs.declared.Problem.{Problem}
 use Rattle.sweep.specs.declared.Crossings.{Crossings}
+use Rattle.solver.specs.declared.Outcome.{Outcome}
 use Rattle.solver.specs.declared.Outcome.the-variants.{Answered}
 use Rattle.entries.specs.Entries.{entryFor, entryFinite, finiteFor, every}
 use Rattle.entries.proofs.Lists.{every-entry}
 use Rattle.solver.specs.Crossed.{sidesOf}
 use Rattle.solver.specs.Table.{lateChecks}
 use Rattle.solver.specs.Internals.{lateNumber}
-use Rattle.solver.specs.Solve.{Solved, lateRefusal}
-use Rattle.solver.proofs.Numbering.{found, most-eight, number-is, few, entries-are, count-is, refused-is, answered-is}
+use Rattle.solver.specs.Solve.{lateRefusal, bufferAfter, settledOf}
+use Rattle.solver.proofs.Numbering.{found, most-eight, number-is, few, entries-are, count-is, refused-is}
+use Rattle.solver.proofs.Numbering.{answered-is, untouched}
 use Rattle.solver.proofs.settle.Statement.{statement}
 use Rattle.solver.proofs.settle.Tie as tie
 
@@ -77,13 +79,17 @@ refusal-of-requires : tie.Need-refusal-of-requires
 refusal-of-requires c κs = search needs
 
 returns : tie.Need-returns
+unfolding settledOf
 returns c =
     let number = c .before .before in
     let at = number .before .before .before .before in
     let a = at .before .before .before .args in
-    let e = refused-is (a .p) (a .answer .now) (number .late-number .result) (number-at number) (c .before .if1 .taken) in
-    let walk = ap (λ (x : Crossings). lateRefusal (number .late-number .result) (x .walk)) (found-is at) in
-    (c .refusal-of .ensures ∙ walk ∙ sym (ap (λ (s : Solved). s .outcome) e), sym (ap (λ (s : Solved). s .buffer) e))
+    let n = number .late-number .result in
+    let outcome = refused-is (a .p) n (number-at number) (c .before .if1 .taken) in
+    let walk = ap (λ (x : Crossings). lateRefusal n (x .walk)) (found-is at) in (
+      c .refusal-of .ensures ∙ walk ∙ sym outcome,
+      sym (ap (λ (o : Outcome). bufferAfter (a .p) o (a .answer .now)) outcome ∙ untouched (a .p) n (found (a .p) .walk) (a .answer .now)),
+    )
 
 write-answer-requires : tie.Need-write-answer-requires
 write-answer-requires c κs = tt
@@ -103,7 +109,7 @@ same-length : tie.Need-same-length
 same-length c = search needs
 
 returns-2 : tie.Need-returns-2
-unfolding with-answer
+unfolding with-answer settledOf
 returns-2 c =
     let written-at = c .before .before .before in
     let none = none-at written-at in
@@ -114,14 +120,14 @@ returns-2 c =
     let p = a .p in
     let zero : firstOf (lateChecks p) ≡ 0 = sym (number-at number) ∙ none .if1 .left in
     let h = few p zero in
-    let e = answered-is p (a .answer .now) zero in
+    let outcome = answered-is p zero in
     let over = with-answer p (a .answer .now) in (
-      ap Answered (ap (λ (x : Crossings). x .count) (found-is at) ∙ count-is p h) ∙ sym (ap (λ (s : Solved). s .outcome) e),
+      ap Answered (ap (λ (x : Crossings). x .count) (found-is at) ∙ count-is p h) ∙ sym outcome,
       written-at .write-answer .ensures
           ∙ ap over (made .entries-of .ensures .1)
           ∙ ap (λ (x : Crossings). over (map (entryFor p) (take (x .count) (x .list)))) (found-is at)
           ∙ ap over (entries-are p h)
-          ∙ sym (ap (λ (s : Solved). s .buffer) e),
+          ∙ sym (ap (λ (o : Outcome). bufferAfter p o (a .answer .now)) outcome),
     )
 
 pub settle-spec : {M : Type 1} → statement M
