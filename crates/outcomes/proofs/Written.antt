@@ -1,6 +1,6 @@
--- A refusal whose number is in 01's table is a well-formed outcome (`refusal-outcome`). So is an answer with one to
--- eight entries whose chosen ends are 0 or 1 (`answer-outcome`). Both hold for any job and revision. The proofs read
--- back each field that `isOutcome` tests. For the chosen ends this is an induction on the entries.
+-- A refusal whose number is in 01's table is a well-formed outcome, for any station and reason (`refusal-outcome`). So is an
+-- answer with one to eight entries whose chosen ends are 0 or 1 (`answer-outcome`). Both hold for any job and revision. The
+-- proofs read back each field that `isOutcome` tests. For the chosen ends this is an induction on the entries.
 use mathlib.Core.Path.{_≡_, refl}
 use mathlib.Core.Bool.{true}
 use mathlib.Core.List.{List, [], _∷_, _++_, append-assoc, List·Memᴰ, List·Memᴰ·head as here, List·Memᴰ·tail as there}
@@ -13,6 +13,7 @@ use Rattle.little_endian.specs.Bytes.{numberAt}
 use Rattle.records.specs.Layout.{CHOSEN, entrySize, refusalSize, answerSize, mostEntries, firstNumber, lastNumber}
 use Rattle.records.specs.Layout.{sizeOf, chosenAt}
 use Rattle.records.specs.Records.{headBytes, answerHeadOf, refusalBytes, entryBytes, entriesBytes, answerBytes}
+use Rattle.records.specs.declared.Refusal.{Refusal}
 use Rattle.records.specs.declared.Entry.{Entry}
 use Rattle.records.proofs.Sizes.{head-length, entry-length, refusal-length}
 use Rattle.records.proofs.Answers.{answer-length}
@@ -25,18 +26,17 @@ sized s n e f = rw (eq-eqb (length s) n e, eq-eqb (sizeOf s) n f)
 
 -- ---- a refusal
 
-pub refusal-outcome : (job revision number : ℕ) → firstNumber ≤ number → number ≤ lastNumber →
-    isOutcome (refusalBytes job revision number) ≡ true
+pub refusal-outcome : (r : Refusal) → firstNumber ≤ r .number → r .number ≤ lastNumber → isOutcome (refusalBytes r) ≡ true
 unfolding isOutcome isRefusal
-refusal-outcome job revision number low high =
-    let s = refusalBytes job revision number in
-    let size = sized s (refusalSize number) (refusal-length job revision number) (refusal-size job revision number) in
+refusal-outcome r low high =
+    let s = refusalBytes r in
+    let size = sized s (refusalSize (r .number)) (refusal-length r) (refusal-size r) in
     rw (
-      refusal-kind job revision number,
-      refusal-number job revision number (omega arith),
+      refusal-kind r,
+      refusal-number r (omega arith),
       size,
-      le-leb firstNumber number low,
-      le-leb number lastNumber high,
+      le-leb firstNumber (r .number) low,
+      le-leb (r .number) lastNumber high,
     )
 
 -- ---- the entries of an answer

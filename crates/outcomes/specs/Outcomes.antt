@@ -1,4 +1,4 @@
--- Which bytes are a well-formed outcome: an answer or a refusal that is not malformed (02, A1). Definitions only.
+-- Which bytes are a well-formed outcome: an answer or a refusal that is not malformed (02, A1 and A4). Definitions only.
 use Prim.Native.Nat.{ℕ, zero, suc}
 use mathlib.Core.Bool.{Bool, true, _&&_, _||_}
 use mathlib.Core.List.{List}
@@ -16,7 +16,8 @@ abbrev pub isBetween : ℕ → ℕ → ℕ → Bool
 isBetween low high n = leb low n && leb n high
 
 -- Whether the bytes are a refusal: the kind is that of a refusal, the number is in 01's table, and the size and the
--- length field are those of a refusal with this number. The job and the revision may be anything.
+-- length field are those of a refusal with this number. So the longer form, with a station and a reason, goes with
+-- number 12 and with no other. The job, the revision, the station and the reason may be anything.
 unfoldable pub isRefusal : List ℕ → Bool
 isRefusal s =
     let number = numberOf s in

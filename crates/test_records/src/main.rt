@@ -1,5 +1,5 @@
 // Reads records from standard input, one after another by their lengths, reads each into its struct and writes it from the struct to
-// standard output: a question, an answer with its entries, or a refusal. It leaves out a record of any other kind. The program stops at
+// standard output: a question, an answer with its entries, or a refusal of either size. It leaves out a record of any other kind. The program stops at
 // the end of the input, at a record that this end cuts short, and at a length above that of the longest answer.
 ghost use mathlib.Core.Path.{_≡_};
 ghost use Prim.Native.Nat.{_≤_};
@@ -15,6 +15,7 @@ use records::LENGTH_SIZE;
 use records::QUESTION_KIND;
 use records::QUESTION_SIZE;
 use records::REFUSAL_KIND;
+use records::VOID_REFUSAL_SIZE;
 
 // The prover requires a bound on the loop. The input has none, so the bound is a count that no input reaches.
 fn main() {
@@ -89,8 +90,8 @@ fn write_entry(bytes: &[u8]) {
 }
 
 fn write_refusal(bytes: &[u8]) {
-    let head = records::read_head(bytes);
-    let mut out = [0u8; HEAD_SIZE];
-    records::write_refusal(&mut out, head.job, head.revision, head.number);
-    io::write_all(STDOUT_FILENO, &out);
+    let refusal = records::read_refusal(bytes);
+    let mut out = [0u8; VOID_REFUSAL_SIZE];
+    records::write_refusal(&mut out, refusal);
+    io::write_all(STDOUT_FILENO, &out[..records::refusal_size(refusal.number)]);
 }
