@@ -1,6 +1,6 @@
 // Reads records from standard input, one after another by their lengths, reads each into its struct and writes it from the struct to
-// standard output: a question, an answer with its entries, or a refusal of either size. It leaves out a record of any other kind. The program stops at
-// the end of the input, at a record that this end cuts short, and at a length above that of the longest answer.
+// standard output: a question, an answer with its entries, or a refusal of either size. It leaves out a record of any other kind. The
+// program stops at the end of the input, at a record that this end cuts short, and at a length above that of the longest answer.
 ghost use mathlib.Core.Path.{_≡_};
 ghost use Prim.Native.Nat.{_≤_};
 ghost use lib.ListN.{length};
