@@ -1,13 +1,13 @@
 -- What a sweep over any grid reports for searches that no question leads to: if L or the number of revolutions is outside the range of
--- step 1 of the time (`nothing-outside`), and if the wanted time is a NaN (`nothing-at-nan`). Also, a place whose side is known has a
--- finite time (`known-finite`).
+-- step 1 of the time (`nothing-outside`, and `void-from-the-first` for the stations), and if the wanted time is a NaN (`nothing-at-nan`).
+-- Also, a place whose side is known has a finite time (`known-finite`).
 use mathlib.Core.Path.{_≡_, refl, subst}
 use mathlib.Core.Bool.{Bool, true, false, not, _||_}
 use mathlib.Core.Logic.{_⊎_, ⊎-elim}
 use Prim.Native.Nat.{ℕ, _+_, _≤_, _<_}
 use native.Mathlib.Omega.{arith}
 use borrow.Author.Tests.{lt-ltb}
-use lib.IntN.{ℤ}
+use lib.IntN.{ℤ, pos, negℤ}
 use lib.Ieee.{Float, nan, inf, fin, lt}
 use lib.ListN.{length}
 use Rattle.float64.specs.Notation.{_≺_, 1F}
@@ -20,13 +20,19 @@ use Rattle.crossing_laws.proofs.FiniteTimes.{timed-finite}
 use Rattle.stations.specs.declared.search.Search.{Search}
 use Rattle.stations.specs.declared.side.Side.{Side}
 use Rattle.stations.specs.declared.side.Side.the-variants.{Below, Unknown}
-use Rattle.sweep.specs.declared.Walk.the-variants.{SomeVoid}
+use Rattle.sweep.specs.declared.walks.Walk.the-variants.{SomeVoid}
+use Rattle.crossing_laws.specs.FirstVoid.{IsFirstVoid}
+use Rattle.hypergeometric.specs.declared.reasons.Reason.{Reason}
+use Rattle.hypergeometric.specs.declared.reasons.Reason.the-variants.{OutsideRange}
 use Rattle.stations.specs.Sides.{sideOf, sideAt, isUnknown}
-use Rattle.stations.specs.Grid.{Grid}
+use Rattle.stations.specs.Grid.{Grid, stations}
+use Rattle.stations.specs.SearchGrid.{gridFor, lastFor}
+use Rattle.stations.specs.Stations.{stationOf, jOf}
 use Rattle.bisection.specs.Pairs.{crosses}
-use Rattle.sweep.specs.Crossings.{crossings, sweepOf}
+use Rattle.sweep.specs.Crossings.{crossings, sweepOf, sweepFor}
 use Rattle.sweep.proofs.Counts.{counted}
-use Rattle.crossing_laws.proofs.Theorems.{clash, none-exactly, void-exactly}
+use Rattle.crossing_laws.proofs.FirstVoids.{clash}
+use Rattle.crossing_laws.proofs.Theorems.{none-exactly, void-exactly}
 use Rattle.crossing_laws.proofs.Corners.{none-below, below-exactly}
 
 -- ---- the finite time of a place whose side is known
@@ -39,41 +45,50 @@ finite-by : (s : Search) (k : ℤ) (p : Place) → timeOf (s .triangle) k (s .re
     isUnknown (sideOf p (s .wanted)) ≡ false → FiniteAt s k
 unfolding sideOf
 finite-by s k (Timed time) e h = (time, (e, timed-finite (s .triangle) k (s .revolutions) time e))
-finite-by s k Void e h = clash refl h
+finite-by s k (Void reason) e h = clash refl h
 
 pub known-finite : (s : Search) (k : ℤ) → isUnknown (sideAt s k) ≡ false → FiniteAt s k
 unfolding sideAt
 known-finite s k h = finite-by s k (timeOf (s .triangle) k (s .revolutions)) refl h
 
--- ---- a search in which no place has a time: no crossing is found, and void places are reported
+-- ---- a search in which every place is void for the same reason: no crossing is found, and the first place is reported
 
-all-unknown : (σ : ℤ → Side) (g : Grid) (last : ℕ) → ((k : ℤ) → σ k ≡ Unknown) →
-    (sweepOf σ g last .count ≡ 0) × (sweepOf σ g last .walk ≡ SomeVoid)
+all-unknown : (σ : ℤ → Side) (g : Grid) (last : ℕ) (reason : Reason) → ((k : ℤ) → σ k ≡ Unknown reason) →
+    (sweepOf σ g last .count ≡ 0) × (sweepOf σ g last .walk ≡ SomeVoid (record { j = jOf (g .place 0); reason = reason }))
 unfolding crosses
-all-unknown σ g last u =
+all-unknown σ g last reason u =
     let none : sweepOf σ g last .count ≡ 0 = none-exactly σ g last .1 (λ i h. rw (u (g .place i))) in
     let few : length (crossings σ g last) ≤ 8 = omega (arith, none, counted σ g last) in
-    (none, void-exactly σ g last .1 (few, (0, (omega arith, rw (u (g .place 0))))))
+    let first : IsFirstVoid σ g last (record { j = jOf (g .place 0); reason = reason }) =
+    record { index = 0; within = omega arith; jIs = refl; voidIs = u (g .place 0); lower = λ i h. absurd (omega (arith, h)) } in
+    (none, void-exactly σ g last _ .1 (few, first))
 
 or-true : (a b : Bool) → b ≡ true → a || b ≡ true
 or-true true b e = refl
 or-true false b e = e
 
-outside-by : (s : Search) (k : ℤ) → outsideRange (s .triangle .lambda) k (s .revolutions) ≡ true → sideAt s k ≡ Unknown
+outside-by : (s : Search) (k : ℤ) → outsideRange (s .triangle .lambda) k (s .revolutions) ≡ true → sideAt s k ≡ Unknown OutsideRange
 unfolding sideAt sideOf timeOf
 outside-by s k e = rw e
 
 -- |L| is not below 1, or there are more than 16 whole revolutions.
-abbrev pub OutsideRange : Search → Type 0
-OutsideRange s = ((magnitudeOf (s .triangle .lambda) ≺ 1F) ≡ false) ⊎ (mostRevolutions < s .revolutions)
+abbrev pub NoTriangle : Search → Type 0
+NoTriangle s = ((magnitudeOf (s .triangle .lambda) ≺ 1F) ≡ false) ⊎ (mostRevolutions < s .revolutions)
 
-pub nothing-outside : (s : Search) (g : Grid) (last : ℕ) → OutsideRange s →
-    (sweepOf (sideAt s) g last .count ≡ 0) × (sweepOf (sideAt s) g last .walk ≡ SomeVoid)
+pub nothing-outside : (s : Search) (g : Grid) (last : ℕ) → NoTriangle s →
+    (sweepOf (sideAt s) g last .count ≡ 0)
+    × (sweepOf (sideAt s) g last .walk ≡ SomeVoid (record { j = jOf (g .place 0); reason = OutsideRange }))
 unfolding outsideRange
 nothing-outside s g last h =
     let near : Bool = magnitudeOf (s .triangle .lambda) ≺ 1F in
-    all-unknown (sideAt s) g last (λ k. outside-by s k
+    all-unknown (sideAt s) g last OutsideRange (λ k. outside-by s k
     (⊎-elim (λ e. rw e) (λ l. or-true (not near) _ (rw (lt-ltb mostRevolutions (s .revolutions) l))) h))
+
+-- The sweep over the stations then reports the first station, whose j is −4095, with the reason `OutsideRange`.
+pub void-from-the-first : (s : Search) → NoTriangle s →
+    (sweepFor s .count ≡ 0) × (sweepFor s .walk ≡ SomeVoid (record { j = negℤ (pos 4095); reason = OutsideRange }))
+unfolding gridFor stationOf jOf
+void-from-the-first s h = nothing-outside s stations (lastFor s) h
 
 -- ---- a wanted time that is a NaN: no crossing
 

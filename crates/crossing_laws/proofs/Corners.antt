@@ -1,6 +1,6 @@
 -- The three sides as 01 defines them (`below-exactly`, `not-below-exactly`, `unknown-exactly`), and 01's corner cases of crossings. They
 -- hold for any time or void at each k, any wanted time and any grid.
-use mathlib.Core.Path.{_≡_, refl, sym}
+use mathlib.Core.Path.{_≡_, refl, sym, ap}
 use mathlib.Core.Bool.{Bool, true, false, cond}
 use mathlib.Core.Logic.{_↔_}
 use Prim.Native.Nat.{ℕ, _+_, _≤_}
@@ -9,6 +9,7 @@ use lib.IntN.{ℤ}
 use lib.Ieee.{Float}
 use Rattle.float64.specs.Notation.{_≺_, _≈_}
 use Rattle.float64.proofs.Comparisons.{above-not-below, equal-not-below}
+use Rattle.hypergeometric.specs.declared.reasons.Reason.{Reason}
 use Rattle.flight_time.specs.declared.Place.{Place}
 use Rattle.flight_time.specs.declared.Place.the-variants.{Timed, Void}
 use Rattle.stations.specs.declared.side.Side.{Side}
@@ -35,7 +36,7 @@ no-side e p q = absurd (let z : _≡_ {A = ℕ} 0 1 = cc (e, p, q) in omega (ari
 other-side : {P : Type 0} → Below ≡ NotBelow → P
 other-side e = absurd (let z : _≡_ {A = ℕ} 0 1 = cc e in omega (arith, z))
 
-pub no-place : {P : Type 0} {t : Float} → Void ≡ Timed t → P
+pub no-place : {P : Type 0} {reason : Reason} {t : Float} → Void reason ≡ Timed t → P
 no-place e = absurd (let z : _≡_ {A = ℕ} 0 1 = cc e in omega (arith, z))
 
 below-by : (t w : Float) (b : Bool) → (t ≺ w) ≡ b → cond b Below NotBelow ≡ Below → TimedBelow (Timed t) w
@@ -53,25 +54,26 @@ known-by false = refl
 pub below-exactly : (p : Place) (w : Float) → (sideOf p w ≡ Below) ↔ TimedBelow p w
 unfolding sideOf
 below-exactly (Timed t) w = (below-by t w (t ≺ w) refl, λ h. cc (h .1 .0, h .1 .1))
-below-exactly Void w = (λ e. no-side e refl refl, λ h. no-place (h .1 .0))
+below-exactly (Void reason) w = (λ e. no-side e refl refl, λ h. no-place (h .1 .0))
 
 pub not-below-exactly : (p : Place) (w : Float) → (sideOf p w ≡ NotBelow) ↔ TimedNotBelow p w
 unfolding sideOf
 not-below-exactly (Timed t) w = (not-below-by t w (t ≺ w) refl, λ h. cc (h .1 .0, h .1 .1))
-not-below-exactly Void w = (λ e. no-side e refl refl, λ h. no-place (h .1 .0))
+not-below-exactly (Void reason) w = (λ e. no-side e refl refl, λ h. no-place (h .1 .0))
 
-pub unknown-exactly : (p : Place) (w : Float) → (sideOf p w ≡ Unknown) ↔ (p ≡ Void)
+pub unknown-exactly : (p : Place) (w : Float) (reason : Reason) → (sideOf p w ≡ Unknown reason) ↔ (p ≡ Void reason)
 unfolding sideOf
-unknown-exactly (Timed t) w = (λ e. no-side (sym e) refl (known-by (t ≺ w)), λ h. no-place (sym h))
-unknown-exactly Void w = (λ e. refl, λ h. refl)
+unknown-exactly (Timed t) w reason = (λ e. no-side (sym e) refl (known-by (t ≺ w)), λ h. no-place (sym h))
+unknown-exactly (Void other) w reason =
+    (λ e. let same : other ≡ reason = cc e in ap Void same, λ h. let same : other ≡ reason = cc h in ap Unknown same)
 
 -- Two sides are not opposite if neither is below.
 pub none-below : (a b : Side) → (a ≡ Below → ⊥) → (b ≡ Below → ⊥) → opposite a b ≡ false
 none-below Below b f g = absurd (f refl)
 none-below NotBelow Below f g = absurd (g refl)
 none-below NotBelow NotBelow f g = refl
-none-below NotBelow Unknown f g = refl
-none-below Unknown b f g = refl
+none-below NotBelow (Unknown reason) f g = refl
+none-below (Unknown reason) b f g = refl
 
 -- ---- corner cases
 

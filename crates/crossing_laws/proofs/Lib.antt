@@ -1,6 +1,7 @@
-pub mod FiniteTimes
-pub mod BracketLaws
 mod Keeping
-pub mod Theorems
-pub mod Corners
 pub mod AnyTriangle
+pub mod BracketLaws
+pub mod Corners
+pub mod FiniteTimes
+pub mod FirstVoids
+pub mod Theorems

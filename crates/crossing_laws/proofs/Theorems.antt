@@ -17,22 +17,23 @@ use Rattle.flight_time.specs.Steps.{lowest, highest, highestRevolving}
 use Rattle.bisection.specs.declared.Bracket.{Bracket}
 use Rattle.stations.specs.declared.side.Side.{Side}
 use Rattle.stations.specs.declared.side.Side.the-variants.{Below, NotBelow, Unknown}
-use Rattle.sweep.specs.declared.Walk.the-variants.{AllTimed, SomeVoid, NinthFound}
+use Rattle.sweep.specs.declared.walks.VoidStation.{VoidStation}
+use Rattle.sweep.specs.declared.walks.Walk.{Walk}
+use Rattle.sweep.specs.declared.walks.Walk.the-variants.{AllTimed, SomeVoid, NinthFound}
 use Rattle.stations.specs.Sides.{opposite, isUnknown}
 use Rattle.stations.specs.Grid.{Grid, IsRising}
 use Rattle.stations.specs.Stations.{stationOf, lastOf}
 use Rattle.bisection.specs.Pairs.{crosses, bracketOf}
-use Rattle.sweep.specs.Crossings.{upTo, some, crossings, someVoid, brackets, blank, walkOf, reported, sweepOf}
+use Rattle.sweep.specs.Crossings.{upTo, some, crossings, someVoid, brackets, blank, reported, sweepOf}
+use Rattle.sweep.specs.Walks.{firstVoid, walkOf}
 use Rattle.sweep.proofs.Counts.{length-is, counted}
+use Rattle.crossing_laws.specs.FirstVoid.{IsFirstVoid}
 use Rattle.crossing_laws.specs.Listed.{Listed, Rising}
+use Rattle.crossing_laws.proofs.FirstVoids.{clash, never-ninth, names-exactly, all-exactly}
 use Rattle.bisection.proofs.Halving.{same-side, lower-known, upper-known}
 use Rattle.stations.proofs.Places.{next-station}
 use Rattle.crossing_laws.proofs.BracketLaws.{bracket-holds}
 use Rattle.crossing_laws.proofs.Keeping.{listed-up, up-listed, rising-up, kept, keeps, rising-keep, some-yes, some-found}
-
--- No Boolean is both true and false.
-pub clash : {P : Type 0} {b : Bool} → b ≡ true → b ≡ false → P
-clash e f = absurd (let z : _≡_ {A = ℕ} 0 1 = cc (e, f) in omega (arith, z))
 
 -- ---- stations: j from −4095, 2^20 apart, to 16384 for M = 0 and to 4095 for M ≥ 1
 
@@ -82,9 +83,9 @@ sides-differ Below NotBelow e d = absurd (let z : _≡_ {A = ℕ} 0 1 = cc d in 
 sides-differ NotBelow Below e d = absurd (let z : _≡_ {A = ℕ} 0 1 = cc d in omega (arith, z))
 sides-differ Below Below e d = clash e refl
 sides-differ NotBelow NotBelow e d = clash e refl
-sides-differ Below Unknown e d = clash e refl
-sides-differ NotBelow Unknown e d = clash e refl
-sides-differ Unknown b e d = clash e refl
+sides-differ Below (Unknown reason) e d = clash e refl
+sides-differ NotBelow (Unknown reason) e d = clash e refl
+sides-differ (Unknown reason) b e d = clash e refl
 
 opposite-by : (a b : Side) (o : Bool) → opposite a b ≡ o → isUnknown a ≡ false → isUnknown b ≡ false → (a ≡ b → ⊥) → o ≡ true
 opposite-by a b true e p q d = refl
@@ -103,20 +104,9 @@ crosses-exactly σ g i =
 
 -- ---- the end of a walk, from its two conditions
 
-walk-ninth : (ninth void : Bool) → walkOf ninth void ≡ NinthFound → ninth ≡ true
-walk-ninth true void e = refl
-walk-ninth false true e = cc
-walk-ninth false false e = cc
-
-walk-void : (ninth void : Bool) → walkOf ninth void ≡ SomeVoid → (ninth ≡ false) × (void ≡ true)
-walk-void true void e = (cc, cc)
-walk-void false true e = (refl, refl)
-walk-void false false e = (refl, cc)
-
-walk-timed : (ninth void : Bool) → walkOf ninth void ≡ AllTimed → (ninth ≡ false) × (void ≡ false)
-walk-timed true void e = (cc, cc)
-walk-timed false true e = (refl, cc)
-walk-timed false false e = (refl, refl)
+walk-by : (seen other : Walk) (ninth : Bool) → walkOf ninth seen ≡ other → (other ≡ NinthFound → ⊥) → (ninth ≡ false) × (seen ≡ other)
+walk-by seen other true e f = absurd (f (sym e))
+walk-by seen other false e f = (refl, e)
 
 pub false-by : (b : Bool) → (b ≡ true → ⊥) → b ≡ false
 false-by true f = absurd (f refl)
@@ -277,9 +267,13 @@ module _ (σ : ℤ → Side) (g : Grid) (last : ℕ) where
   pub ninth-exactly : (sweepOf σ g last .walk ≡ NinthFound) ↔ (8 < length (crossings σ g last))
   unfolding sweepOf reported
   ninth-exactly = (
-    λ e. subst (λ (n : ℕ). 8 < n) as-many (ltb-true 8 (length (brackets σ g last)) (walk-ninth _ (someVoid σ g last) e)),
+    λ e. subst (λ (n : ℕ). 8 < n) as-many (ltb-true 8 (length (brackets σ g last)) (by (ltb 8 (length (brackets σ g last))) e)),
     λ h. rw (as-many, lt-ltb 8 (length (crossings σ g last)) h),
   )
+    where
+      by : (b : Bool) → walkOf b (firstVoid σ g (upTo (last + 1))) ≡ NinthFound → b ≡ true
+      by true e = refl
+      by false e = never-ninth σ g last e
 
   -- `someVoid` is true exactly if some place from 0 to `last` is void.
   pub void-at : (i : ℕ) → i ≤ last → isUnknown (σ (g .place i)) ≡ true → someVoid σ g last ≡ true
@@ -299,18 +293,19 @@ module _ (σ : ℤ → Side) (g : Grid) (last : ℕ) where
   few : ninth ≡ false → length (crossings σ g last) ≤ 8
   few e = subst (λ (n : ℕ). n ≤ 8) as-many (ltb-false 8 (length (brackets σ g last)) e)
 
-  -- `SomeVoid` is reported exactly if there are at most eight crossings and some place is void.
-  pub void-exactly : (sweepOf σ g last .walk ≡ SomeVoid)
-      ↔ ((length (crossings σ g last) ≤ 8) × ((i : ℕ) × ((i ≤ last) × (isUnknown (σ (g .place i)) ≡ true))))
+  -- `SomeVoid` is reported exactly if there are at most eight crossings and some place is void, and it names the first void one.
+  pub void-exactly : (station : VoidStation) →
+      (sweepOf σ g last .walk ≡ SomeVoid station) ↔ ((length (crossings σ g last) ≤ 8) × IsFirstVoid σ g last station)
   unfolding sweepOf reported
-  void-exactly = (
-    λ e. let t = walk-void ninth (someVoid σ g last) e in (few (t .0), at-void (t .1)),
-    λ h. rw (as-many, le-ltb 8 (length (crossings σ g last)) (h .0), void-at (h .1 .0) (h .1 .1 .0) (h .1 .1 .1)),
+  void-exactly station = (
+    λ e.
+        let t = walk-by (firstVoid σ g (upTo (last + 1))) (SomeVoid station) ninth e void-not-ninth in
+        (few (t .0), names-exactly σ g last station .0 (t .1)),
+    λ h. rw (as-many, le-ltb 8 (length (crossings σ g last)) (h .0)) (names-exactly σ g last station .1 (h .1)),
   )
-
-  -- If every place has a time, `someVoid` is false.
-  all-timed : ((i : ℕ) → i ≤ last → isUnknown (σ (g .place i)) ≡ false) → someVoid σ g last ≡ false
-  all-timed f = false-by (someVoid σ g last) (λ e. let v = at-void e in clash (v .1 .1) (f (v .0) (v .1 .0)))
+    where
+      void-not-ninth : SomeVoid station ≡ NinthFound → ⊥
+      void-not-ninth e = let z : _≡_ {A = ℕ} 0 1 = cc e in omega (arith, z)
 
   -- `AllTimed` is reported exactly if there are at most eight crossings and every place has a time.
   pub timed-exactly : (sweepOf σ g last .walk ≡ AllTimed)
@@ -318,10 +313,13 @@ module _ (σ : ℤ → Side) (g : Grid) (last : ℕ) where
   unfolding sweepOf reported
   timed-exactly = (
     λ e.
-        let t = walk-timed ninth (someVoid σ g last) e in
-        (few (t .0), λ i h. false-by (isUnknown (σ (g .place i))) (λ u. clash (void-at i h u) (t .1))),
-    λ h. rw (as-many, le-ltb 8 (length (crossings σ g last)) (h .0), all-timed (h .1)),
+        let t = walk-by (firstVoid σ g (upTo (last + 1))) AllTimed ninth e timed-not-ninth in
+        (few (t .0), all-exactly σ g last .0 (t .1)),
+    λ h. rw (as-many, le-ltb 8 (length (crossings σ g last)) (h .0)) (all-exactly σ g last .1 (h .1)),
   )
+    where
+      timed-not-ninth : AllTimed ≡ NinthFound → ⊥
+      timed-not-ninth e = let z : _≡_ {A = ℕ} 0 1 = cc e in omega (arith, z)
 
   empty-by : (xs : List ℕ) → ((i : ℕ) → Listed i xs → ⊥) → length xs ≡ 0
   unfolding Listed

@@ -1,2 +1,3 @@
 pub mod Brackets
+pub mod FirstVoid
 pub mod Listed
