@@ -17,6 +17,7 @@ use Rattle.records.specs.Records.{headBytes, answerHeadOf, entryBytes, entriesB
 use Rattle.records.specs.declared.Entry.{Entry}
 use Rattle.records.proofs.Sizes.{head-length, entry-length}
 use Rattle.entrance.specs.declared.Problem.{Problem}
+use Rattle.hypergeometric.specs.declared.reasons.Reason.{Reason}
 use Rattle.flight_time.specs.declared.Place.{Place}
 use Rattle.flight_time.specs.declared.Place.the-variants.{Timed, Void}
 use Rattle.float64.specs.Notation.{_≺_}
@@ -93,14 +94,15 @@ differ false false e = cc
 moved : {a b c d : Side} → a ≡ c → b ≡ d → opposite a b ≡ true → opposite c d ≡ true
 moved {b = b} {c = c} e f h = sym (ap (λ (x : Side). opposite x b) e ∙ ap (opposite c) f) ∙ h
 
-void-by : (x : Place) (w : Float) → isUnknown (sideOf x w) ≡ true → x ≡ Void
+-- A place whose side is unknown is void.
+void-by : (x : Place) (w : Float) → isUnknown (sideOf x w) ≡ true → (reason : Reason) × (x ≡ Void reason)
 unfolding sideOf
-void-by Void w e = refl
+void-by (Void reason) w e = (reason, refl)
 void-by (Timed t) w e = timed (t ≺ w) e
   where
-    timed : (b : Bool) → isUnknown (cond b Below NotBelow) ≡ true → Timed t ≡ Void
-    timed true f = cc
-    timed false f = cc
+    timed : (b : Bool) → isUnknown (cond b Below NotBelow) ≡ true → (reason : Reason) × (Timed t ≡ Void reason)
+    timed true f = absurd (let z : _≡_ {A = ℕ} 0 1 = cc f in omega (arith, z))
+    timed false f = absurd (let z : _≡_ {A = ℕ} 0 1 = cc f in omega (arith, z))
 
 module _ (p : Problem) where
   pub entries-pairs : entriesOf p ≡ map (entryAt p) (pairsOf p)
@@ -162,11 +164,11 @@ module _ (p : Problem) where
   unfolding sideOf
   side-at k t e = side-is k ∙ rw e
 
-  pub void-at : (k : ℤ) → placeOf p k ≡ Void → isUnknown (sidesOf p k) ≡ true
+  pub void-at : (k : ℤ) {reason : Reason} → placeOf p k ≡ Void reason → isUnknown (sidesOf p k) ≡ true
   unfolding sideOf
   void-at k e = ap isUnknown (side-is k) ∙ rw e
 
-  pub at-void : (k : ℤ) → isUnknown (sidesOf p k) ≡ true → placeOf p k ≡ Void
+  pub at-void : (k : ℤ) → isUnknown (sidesOf p k) ≡ true → (reason : Reason) × (placeOf p k ≡ Void reason)
   at-void k e = void-by (placeOf p k) (p .wanted) (sym (ap isUnknown (side-is k)) ∙ e)
 
   pub counts-crosses : (i : ℕ) → IsCrossing p i → crosses (sidesOf p) (gridOf p) i ≡ true

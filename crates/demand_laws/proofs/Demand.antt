@@ -12,7 +12,7 @@ use lib.Dec.{eqb, ltb, lit<, lit≤}
 use lib.ListN.{length, getD, take, drop, List·getD-map, length-map}
 use Rattle.geometry.specs.Triangles.{shapeOf}
 use Rattle.geometry.specs.declared.Shape.{Shape}
-use Rattle.records.specs.Layout.{entrySize, answerSize, answerRoom}
+use Rattle.records.specs.Layout.{entrySize, answerSize, answerRoom, voidNumber}
 use Rattle.records.specs.Records.{questionOf, headOf, answerHeadOf, entryBytes, answerBytes}
 use Rattle.records.specs.Ranges.{HeadHeld}
 use Rattle.records.specs.declared.Question.{Question}
@@ -24,26 +24,31 @@ use Rattle.entrance.specs.Table.{conditionOf, Exactly}
 use Rattle.entrance.specs.declared.Problem.{Problem}
 use Rattle.entrance.specs.declared.Judged.the-variants.{Refused, Accepted}
 use Rattle.entrance.proofs.Table.{Rising, none, more, UpTo, above, first-is, is-first, none-first, first-none, accepted-exactly}
-use Rattle.entrance.proofs.Table.{accepted-room}
+use Rattle.entrance.proofs.Table.{accepted-room, only-ten}
 use Rattle.bound_laws.proofs.Past.{past-bounds}
 use Rattle.stations.specs.Sides.{isUnknown}
 use Rattle.crossing_laws.specs.Listed.{Listed}
 use Rattle.crossing_laws.proofs.Corners.{no-place}
 use Rattle.bisection.specs.Pairs.{crosses}
 use Rattle.sweep.proofs.Counts.{counted}
-use Rattle.crossing_laws.proofs.Theorems.{clash, false-by, listed-exactly, rises, none-exactly, void-at as some-at, at-void as some-void}
+use Rattle.crossing_laws.proofs.FirstVoids.{clash}
+use Rattle.crossing_laws.proofs.Theorems.{false-by, listed-exactly, rises, none-exactly, void-at as some-at, at-void as some-void}
 use Rattle.stations.proofs.Grids.{grid-rises}
-use Rattle.solver.specs.declared.Outcome.the-variants.{Refused, Answered}
-use Rattle.solver.specs.Crossed.{searchOf, sidesOf, gridOf, lastPlace, entriesOf}
+use Rattle.solver.specs.declared.Outcome.{Outcome}
+use Rattle.solver.specs.declared.Outcome.the-variants.{Refused, RefusedVoid, Answered}
+use Rattle.solver.specs.Crossed.{searchOf, sidesOf, gridOf, lastPlace, seenOf, entriesOf}
 use Rattle.solver.specs.Table.{anyVoid, allFinite, lateChecks}
-use Rattle.solver.specs.Solve.{Solved, refused, answered, settledOf, solvedAfter, solveOf}
-use Rattle.demand_laws.specs.Demand.{problemFrom, tableOf, rowOf, Demand1, Past, IsCrossing, pairsOf, entryAt}
-use Rattle.demand_laws.specs.Demand.{FiniteAll, FiniteNot, TimedAll, VoidSome, NonePair, Pairs, Answer, Demand3}
+use Rattle.solver.specs.Solve.{Solved, lateRefusal, outcomeFor, bufferAfter, settledOf, solvedAfter, solveOf, outcomeNumber}
+use Rattle.demand_laws.specs.Demand.{problemFrom, tableOf, rowOf, HasAnswer, IsRefused, Demand1, Past, IsCrossing, pairsOf, entryAt}
+use Rattle.demand_laws.specs.Demand.{FiniteAll, FiniteNot, TimedAll, VoidSome, FirstVoid, NonePair, Pairs, Answer, Demand3}
 use Rattle.demand_laws.specs.Demand.{InDomain}
-use Rattle.solver.proofs.Numbering.{rows, rows-are}
+use Rattle.solver.proofs.Numbering.{rows, rows-are, report-agrees, untouched}
+use Rattle.sweep.specs.declared.walks.VoidStation.{VoidStation}
+use Rattle.sweep.specs.declared.walks.Walk.{Walk}
+use Rattle.sweep.specs.declared.walks.Walk.the-variants.{AllTimed, SomeVoid, NinthFound}
+use Rattle.demand_laws.proofs.VoidStations.{named-void, station-seen, first-void}
 use Rattle.demand_laws.proofs.RowFacts.{is-none, is-eleven, is-twelve, is-thirteen, is-fourteen, only-four, first-append}
 use Rattle.little_endian.proofs.Laid.{laid}
-use Rattle.question_record.proofs.Recorded.{apart}
 use Rattle.demand_laws.proofs.ReadBack.{entry-held, head-held, listed-at}
 use Rattle.demand_laws.proofs.Answered.{entry-place, entries-pairs, each-finite, finite-each, finite-not, finite-is, timed-at}
 use Rattle.demand_laws.proofs.Answered.{void-at, at-void, counts-crosses, crosses-counts, bracket-of, chosen-by, lower-of}
@@ -95,43 +100,85 @@ module _ (s b : List ℕ) where
   table-first = first-append 0 entrance (lateChecks p) rising-entrance
 
   -- ---- the equation for a call
+  -- The outcome of number n, and the result of a call with this outcome. 0 means an answer.
+  abbrev outcomeAt : ℕ → Outcome
+  outcomeAt n = cond (eqb n 0) (Answered (length (entriesOf p))) (lateRefusal n (seenOf p))
+
   abbrev given : ℕ → Solved
-  given n = cond (eqb n 0) (answered p b) (refused n b)
+  given n = record { outcome = outcomeAt n; buffer = bufferAfter p (outcomeAt n) b }
+
+  -- A refusal with another number than 12 has the number alone.
+  plain : (n : ℕ) (walk : Walk) → (n ≡ voidNumber → ⊥) → lateRefusal n walk ≡ Refused n
+  plain n AllTimed h = refl
+  plain n (SomeVoid station) h = rw (ne-eqb n voidNumber h)
+  plain n NinthFound h = refl
+
+  -- The number of an entrance check is at most 10.
+  not-void : (eqb (firstOf entrance) 0 ≡ false) → firstOf entrance ≡ voidNumber → ⊥
+  unfolding conditionOf
+  not-void e z =
+      let own = first-is 0 entrance voidNumber rising-entrance (lit< tt) z .own in
+      omega (arith, only-ten s (length b) voidNumber own)
 
   by-entrance : (t : Bool) → eqb (firstOf entrance) 0 ≡ t →
       solvedAfter (cond t (Accepted p) (Refused (firstOf entrance))) b ≡ given (cond t (firstOf (lateChecks p)) (firstOf entrance))
-  unfolding settledOf
+  unfolding settledOf outcomeFor
   by-entrance true e = refl
-  by-entrance false e = rw e
+  by-entrance false e = rw (e, plain (firstOf entrance) (seenOf p) (not-void e))
 
   pub solve-is : solveOf s b ≡ given N
   unfolding solveOf judgeOf
   solve-is = by-entrance (eqb (firstOf entrance) 0) refl ∙ ap given (sym table-first)
 
-  -- ---- the first row that applies, from the outcome and back
-  given-number : (n : ℕ) (t : Bool) → eqb N 0 ≡ t → cond t (answered p b) (refused N b) .outcome ≡ Refused n → (N ≡ n) × (0 < n)
-  given-number n true e f = apart (sym f)
-  given-number n false e f =
-      let k : N ≡ n = cc f in
-      let z : N ≡ 0 → ⊥ = eqb-false N 0 e in
-      (k, lt-of-not-le (λ h. z (k ∙ omega (arith, h))))
+  outcome-is : solveOf s b .outcome ≡ outcomeAt N
+  outcome-is = ap (λ (x : Solved). x .outcome) solve-is
 
-  refused-when : (n : ℕ) → solveOf s b .outcome ≡ Refused n → (N ≡ n) × (0 < n)
-  refused-when n e = given-number n (eqb N 0) refl (sym (ap (λ (x : Solved). x .outcome) solve-is) ∙ e)
+  -- ---- the number of an outcome is that of the first row that applies
+  number-by : (n : ℕ) (station : VoidStation) (t : Bool) → eqb n voidNumber ≡ t →
+      outcomeNumber (cond t (RefusedVoid station) (Refused n)) ≡ n
+  number-by n station true e = sym (eqb-true n voidNumber e)
+  number-by n station false e = refl
 
-  when-refused : (n : ℕ) → 0 < n → N ≡ n → solveOf s b ≡ refused n b
-  when-refused n h e = solve-is ∙ ap given e ∙ rw (ne-eqb n 0 (λ z. omega (arith, z, h)))
+  late-number : (n : ℕ) (walk : Walk) → outcomeNumber (lateRefusal n walk) ≡ n
+  late-number n AllTimed = refl
+  late-number n (SomeVoid station) = number-by n station (eqb n voidNumber) refl
+  late-number n NinthFound = refl
 
-  answered-number : (n : ℕ) (t : Bool) → eqb N 0 ≡ t → cond t (answered p b) (refused N b) .outcome ≡ Answered n →
-      (N ≡ 0) × (length (entriesOf p) ≡ n)
-  answered-number n true e f = (eqb-true N 0 e, cc f)
-  answered-number n false e f = apart f
+  outcome-number : (n : ℕ) (t : Bool) → eqb n 0 ≡ t →
+      outcomeNumber (cond t (Answered (length (entriesOf p))) (lateRefusal n (seenOf p))) ≡ n
+  outcome-number n true e = sym (eqb-true n 0 e)
+  outcome-number n false e = late-number n (seenOf p)
+
+  number-is : outcomeNumber (solveOf s b .outcome) ≡ N
+  number-is = ap outcomeNumber outcome-is ∙ outcome-number N (eqb N 0) refl
+
+  refused-when : (n : ℕ) → IsRefused s b n → N ≡ n
+  refused-when n r = sym number-is ∙ r .1
+
+  when-refused : (n : ℕ) → 0 < n → N ≡ n → IsRefused s b n
+  when-refused n h e = (h, number-is ∙ e)
+
+  -- ---- an answer
+  when-answered : N ≡ 0 → solveOf s b ≡ given 0
+  when-answered e = solve-is ∙ ap given e
 
   answered-when : (n : ℕ) → solveOf s b .outcome ≡ Answered n → (N ≡ 0) × (length (entriesOf p) ≡ n)
-  answered-when n e = answered-number n (eqb N 0) refl (sym (ap (λ (x : Solved). x .outcome) solve-is) ∙ e)
+  answered-when n e =
+      let z : N ≡ 0 = sym number-is ∙ ap outcomeNumber e in
+      let same : Answered (length (entriesOf p)) ≡ Answered n = sym (ap (λ (x : Solved). x .outcome) (when-answered z)) ∙ e in
+      (z, cc same)
 
-  when-answered : N ≡ 0 → solveOf s b ≡ answered p b
-  when-answered e = solve-is ∙ ap given e
+  has-answer : N ≡ 0 → HasAnswer s b
+  has-answer z = (length (entriesOf p), ap (λ (x : Solved). x .outcome) (when-answered z))
+
+  -- ---- a refusal with a station: it has number 12, and the station is that of the report
+  void-number : (v : VoidStation) → solveOf s b .outcome ≡ RefusedVoid v → N ≡ voidNumber
+  void-number v e = sym number-is ∙ ap outcomeNumber e
+
+  pub void-seen : (v : VoidStation) → solveOf s b .outcome ≡ RefusedVoid v → seenOf p ≡ SomeVoid v
+  void-seen v e =
+      let late-one : lateRefusal voidNumber (seenOf p) ≡ RefusedVoid v = sym (outcome-is ∙ ap outcomeAt (void-number v e)) ∙ e in
+      station-seen voidNumber (seenOf p) v late-one
 
   -- ---- demand 1
   pub demand-1 : Demand1 s b
@@ -140,26 +187,22 @@ module _ (s b : List ℕ) where
       record {
         refused = λ n h.
             record {
-              only = λ e. first-is 0 (tableOf s (length b)) n rising-table h (refused-when n e .0);
-              always = λ f. ap (λ (x : Solved). x .outcome) (when-refused n h (is-first 0 (tableOf s (length b)) n rising-table f));
+              only = λ r. first-is 0 (tableOf s (length b)) n rising-table h (refused-when n r);
+              always = λ f. when-refused n h (is-first 0 (tableOf s (length b)) n rising-table f);
             };
         answered =
             record {
               only = λ e. first-none 0 (tableOf s (length b)) rising-table (answered-when (e .0) (e .1) .0);
-              always = λ f. (
-                length (entriesOf p),
-                ap (λ (x : Solved). x .outcome) (when-answered (none-first 0 (tableOf s (length b)) rising-table f)),
-              );
+              always = λ f. has-answer (none-first 0 (tableOf s (length b)) rising-table f);
             };
-        number = λ n e.
-            let r = refused-when n e in
-            let f = first-is 0 (tableOf s (length b)) n rising-table (r .1) (r .0) in
+        number = λ n r.
+            let f = first-is 0 (tableOf s (length b)) n rising-table (r .0) (refused-when n r) in
             let never : 15 ≤ n → ⊥ = λ h. clash (f .own) (above 14 (tableOf s (length b)) n to-fourteen h) in
-            let most : n ≤ 14 = le-of-suc-le-suc (lt-of-not-le never) in
-            (r .1, omega (arith, most));
-        untouched = λ n e.
-            let r = refused-when n e in
-            ap (λ (x : Solved). x .buffer) (when-refused n (r .1) (r .0));
+            le-of-suc-le-suc (lt-of-not-le never);
+        untouched = λ n r.
+            let some : eqb N 0 ≡ false = ne-eqb N 0 (λ z. omega (arith, z, refused-when n r, r .0)) in
+            ap (λ (x : Solved). x .buffer) solve-is ∙ rw some (untouched p N (seenOf p) b);
+        zero = record { only = λ e. number-is ∙ answered-when (e .0) (e .1) .0; always = λ z. has-answer (sym number-is ∙ z) };
       }
 
   -- ---- demand 3
@@ -214,14 +257,25 @@ module _ (s b : List ℕ) where
     timed-all : TimedAll p → anyVoid p ≡ false
     timed-all f =
         false-by (anyVoid p) (λ e. let v = some-void (sidesOf p) (gridOf p) (lastPlace p) e in
-        no-place (sym (at-void p (gridOf p .place (v .0)) (v .1 .1)) ∙ f (v .0) (v .1 .0) .1))
+        no-place (sym (at-void p (gridOf p .place (v .0)) (v .1 .1) .1) ∙ f (v .0) (v .1 .0) .1))
 
     void-some : anyVoid p ≡ true → VoidSome p
     void-some e = let v = some-void (sidesOf p) (gridOf p) (lastPlace p) e in
         (v .0, (v .1 .0, at-void p (gridOf p .place (v .0)) (v .1 .1)))
 
     some-void-of : VoidSome p → anyVoid p ≡ true
-    some-void-of h = some-at (sidesOf p) (gridOf p) (lastPlace p) (h .0) (h .1 .0) (void-at p (gridOf p .place (h .0)) (h .1 .1))
+    some-void-of h = some-at (sidesOf p) (gridOf p) (lastPlace p) (h .0) (h .1 .0) (void-at p (gridOf p .place (h .0)) (h .1 .1 .1))
+
+    -- Number 12 comes with the station of the report.
+    the-station : IsRefused s b 12 → (v : VoidStation) × (solveOf s b .outcome ≡ RefusedVoid v)
+    the-station r =
+        let n = refused-when 12 r in
+        let void = is-twelve (eqb C 0) (anyVoid p) (ltb 8 C) (allFinite p) (row 12 n) .1 in
+        let v = named-void (report-agrees p) void in
+        (v .0, outcome-is ∙ ap outcomeAt n ∙ ap (lateRefusal voidNumber) (v .1))
+
+    the-first : (v : VoidStation) → solveOf s b .outcome ≡ RefusedVoid v → IsRefused s b 12 × FirstVoid p v
+    the-first v e = (when-refused 12 (lit< tt) (void-number v e), first-void p v (void-seen v e))
 
     finite-all : allFinite p ≡ true → FiniteAll p
     finite-all e i c = finite-is p i ∙ each-finite p e i (pair-listed i .always c)
@@ -319,43 +373,45 @@ module _ (s b : List ℕ) where
                     (some-pairs (r .0), omega (arith, few z), finite-all (r .2));
                 always = λ h.
                     let z = of-row 0 (rw (ne-eqb C 0 (λ k. omega (arith, k, h .0)), le-ltb 8 C (h .1), all-finite (h .2))) in
-                    (length (entriesOf p), ap (λ (x : Solved). x .outcome) (when-answered z));
+                    has-answer z;
               };
           answer = the-answer;
           eleven =
               record {
                 only = λ e.
-                    let r = is-eleven (eqb C 0) (anyVoid p) (ltb 8 C) (allFinite p) (row 11 (refused-when 11 e .0)) in
+                    let r = is-eleven (eqb C 0) (anyVoid p) (ltb 8 C) (allFinite p) (row 11 (refused-when 11 e)) in
                     (all-timed (r .1), no-pairs (eqb-true C 0 (r .0)));
                 always = λ h.
                     let z = of-row 11 (rw (eq-eqb C 0 (pairs-none (h .1)), timed-all (h .0))) in
-                    ap (λ (x : Solved). x .outcome) (when-refused 11 (lit< tt) z);
+                    when-refused 11 (lit< tt) z;
               };
           twelve =
               record {
                 only = λ e.
-                    let r = is-twelve (eqb C 0) (anyVoid p) (ltb 8 C) (allFinite p) (row 12 (refused-when 12 e .0)) in
+                    let r = is-twelve (eqb C 0) (anyVoid p) (ltb 8 C) (allFinite p) (row 12 (refused-when 12 e)) in
                     (void-some (r .1), no-pairs (eqb-true C 0 (r .0)));
                 always = λ h.
                     let v = some-void-of (h .0) in
                     let z = of-row 12 (rw (eq-eqb C 0 (pairs-none (h .1)), v)) in
-                    ap (λ (x : Solved). x .outcome) (when-refused 12 (lit< tt) z);
+                    when-refused 12 (lit< tt) z;
               };
+          station = the-station;
+          firstVoid = the-first;
           thirteen =
               record {
-                only = λ e. ltb-true 8 C (is-thirteen (eqb C 0) (anyVoid p) (ltb 8 C) (allFinite p) (row 13 (refused-when 13 e .0)));
+                only = λ e. ltb-true 8 C (is-thirteen (eqb C 0) (anyVoid p) (ltb 8 C) (allFinite p) (row 13 (refused-when 13 e)));
                 always = λ h.
                     let z = of-row 13 (rw (ne-eqb C 0 (λ k. omega (arith, k, h)), lt-ltb 8 C h)) in
-                    ap (λ (x : Solved). x .outcome) (when-refused 13 (lit< tt) z);
+                    when-refused 13 (lit< tt) z;
               };
           fourteen =
               record {
                 only = λ e.
-                    let r = is-fourteen (eqb C 0) (anyVoid p) (ltb 8 C) (allFinite p) (row 14 (refused-when 14 e .0)) in
+                    let r = is-fourteen (eqb C 0) (anyVoid p) (ltb 8 C) (allFinite p) (row 14 (refused-when 14 e)) in
                     (some-pairs (r .0), ltb-false 8 C (r .1), some-infinite (r .2));
                 always = λ h.
                     let z = of-row 14 (rw (ne-eqb C 0 (λ k. omega (arith, k, h .0)), le-ltb 8 C (h .1), not-all-finite (h .2))) in
-                    ap (λ (x : Solved). x .outcome) (when-refused 14 (lit< tt) z);
+                    when-refused 14 (lit< tt) z;
               };
-          noOther = λ n e. only-four (eqb C 0) (anyVoid p) (ltb 8 C) (allFinite p) n (row n (refused-when n e .0)) (refused-when n e .1);
+          noOther = λ n e. only-four (eqb C 0) (anyVoid p) (ltb 8 C) (allFinite p) n (row n (refused-when n e)) (e .0);
         }

@@ -4,3 +4,4 @@ pub mod ReadBack
 pub mod Demand
 pub mod NeverBoth
 pub mod Whole
+mod VoidStations

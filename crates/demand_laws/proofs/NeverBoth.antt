@@ -2,40 +2,40 @@
 -- (`never-both`): the outcome depends on the question's bytes alone, whatever the buffer held (`same-outcome`). A second call with
 -- the buffer that the first call left changes nothing. `recording` says how the record follows from the outcome.
 use mathlib.Core.Path.{_≡_, refl, sym, ap, _∙_}
-use mathlib.Core.Bool.{Bool, true, false, cond}
 use mathlib.Core.List.{List, _++_}
 use Prim.Native.Nat.{ℕ, _+_, _≤_}
 use native.Mathlib.Omega.{arith}
-use lib.Dec.{eqb}
 use lib.ListN.{length, drop}
 use lib.Seq.{drop-append-seam}
-use Rattle.question_record.specs.Record.{refusalRecord, recordOf, Output}
-use Rattle.little_endian.specs.Bytes.{written}
-use Rattle.records.specs.Layout.{refusalSize, answerRoom}
-use Rattle.entrance.specs.Judge.{firstOf, judgeOf}
-use Rattle.entrance.specs.declared.Problem.{Problem}
+use Rattle.question_record.specs.Record.{refusalFor, voidRefusalFor, recordOf, Output, outputOf}
+use Rattle.little_endian.specs.Bytes.{AreBytes, written}
+use Rattle.records.specs.Layout.{JOB, REVISION, refusalSize, voidRefusalSize, answerRoom}
+use Rattle.records.specs.Ranges.{RefusalHeld}
+use Rattle.records.specs.Records.{refusalOf, refusalBytes}
+use Rattle.records.specs.declared.Refusal.{Refusal}
+use Rattle.records.proofs.RoundTrip.{refusal-back}
+use Rattle.records.proofs.Sizes.{refusal-length, refusal-room}
+use Rattle.entrance.specs.Judge.{judgeOf}
 use Rattle.entrance.specs.declared.Judged.{Judged}
 use Rattle.entrance.specs.declared.Judged.the-variants.{Refused, Accepted}
 use Rattle.solver.specs.declared.Outcome.{Outcome}
-use Rattle.solver.specs.declared.Outcome.the-variants.{Refused, Answered}
-use Rattle.solver.specs.Table.{lateChecks}
-use Rattle.solver.specs.Solve.{Solved, refused, answered, settledOf, solvedAfter, solveOf}
-use Rattle.demand_laws.specs.Demand.{Recording}
-use Rattle.question_record.proofs.Recorded.{room-same, when-answered, when-refused, has-room, apart, refusal-record-length, record-short}
+use Rattle.solver.specs.declared.Outcome.the-variants.{Refused, RefusedVoid, Answered}
+use Rattle.solver.specs.Solve.{Solved, settledOf, solvedAfter, solveOf, outcomeNumber}
+use Rattle.sweep.specs.declared.walks.VoidStation.{VoidStation}
+use Rattle.demand_laws.specs.Demand.{problemFrom, IsRefused, Recording}
+use Rattle.demand_laws.proofs.Demand.{void-seen}
+use Rattle.demand_laws.proofs.VoidStations.{j-fits}
+use Rattle.hypergeometric.proofs.ReasonNumbers.{number-most}
+use Rattle.little_endian.proofs.Numbers.{number-lt}
+use Rattle.question_record.proofs.Recorded.{room-same, when-answered, when-refused, when-void, has-room, number-for, record-short}
 use Rattle.question_record.proofs.WholeRecord.{record-laid, record-size, record-first}
 use Rattle.little_endian.proofs.Laid.{laid, laid-length}
 
 module _ (s : List ℕ) where
-  by-row : (p : Problem) (none : Bool) (b c : List ℕ) →
-      cond none (answered p b) (refused (firstOf (lateChecks p)) b) .outcome
-      ≡ cond none (answered p c) (refused (firstOf (lateChecks p)) c) .outcome
-  by-row p true b c = refl
-  by-row p false b c = refl
-
   by-verdict : (j : Judged) (b c : List ℕ) → solvedAfter j b .outcome ≡ solvedAfter j c .outcome
   unfolding settledOf
   by-verdict (Refused n) b c = refl
-  by-verdict (Accepted p) b c = by-row p (eqb (firstOf (lateChecks p)) 0) b c
+  by-verdict (Accepted p) b c = refl
 
   -- Two buffers with room give the same outcome, whatever they held.
   pub same-outcome : (b c : List ℕ) → answerRoom ≤ length b → answerRoom ≤ length c → solveOf s b .outcome ≡ solveOf s c .outcome
@@ -47,8 +47,10 @@ module _ (s : List ℕ) where
 
   -- With two buffers that have room, no question is answered with one and refused with the other.
   pub never-both : (b c : List ℕ) → answerRoom ≤ length b → answerRoom ≤ length c → (m n : ℕ) → solveOf s b .outcome ≡ Answered m →
-      solveOf s c .outcome ≡ Refused n → ⊥
-  never-both b c h k m n e f = apart (sym f ∙ sym (same-outcome b c h k) ∙ e)
+      IsRefused s c n → ⊥
+  never-both b c h k m n e f =
+      let z : n ≡ 0 = sym (f .1) ∙ ap outcomeNumber (sym (same-outcome b c h k) ∙ e) in
+      omega (arith, z, f .0)
 
   -- ---- the record
 
@@ -75,34 +77,77 @@ module _ (s : List ℕ) where
 
     -- A second call with the buffer that the first call left gives the same outcome and leaves the same bytes.
     again-by : (o : Outcome) → solveOf s b .outcome ≡ o → solveOf s (solveOf s b .buffer) ≡ solveOf s b
-    again-by (Refused n) e = ap (solveOf s) (when-refused s b n h e .0)
+    again-by (Refused n) e = ap (solveOf s) (when-refused s b h n e .0)
+    again-by (RefusedVoid v) e = ap (solveOf s) (when-void s b h v e .0)
     again-by (Answered n) e =
-        let w = when-answered s b n h e in
+        let w = when-answered s b h n e in
         let long : answerRoom ≤ length over = omega (arith, h, over-long) in
         let same = same-outcome over b long h in
-        let v = when-answered s over n long (same ∙ e) in
+        let v = when-answered s over long n (same ∙ e) in
         ap (solveOf s) (w .0) ∙ both (solveOf s over) (solveOf s b) same (v .0 ∙ twice ∙ sym (w .0))
       where
         both : (x y : Solved) → x .outcome ≡ y .outcome → x .buffer ≡ y .buffer → x ≡ y
         both x y f g = ap (λ (o : Outcome). record { outcome = o; buffer = x .buffer }) f
             ∙ ap (λ (l : List ℕ). record { outcome = y .outcome; buffer = l }) g
 
+    -- What `write_record` leaves in the buffer if the record is that of a refusal: the refusal, and then the old bytes.
+    module _ (r : Refusal) (e : recordOf s ≡ refusalBytes r) where
+      refusal-sized : outputOf s b .size ≡ refusalSize (r .number)
+      refusal-sized = ap (λ (x : Output). x .size) (has-room s b h) ∙ ap length e ∙ refusal-length r
+
+      refusal-left : outputOf s b .buffer ≡ refusalBytes r ++ drop (refusalSize (r .number)) b
+      refusal-left =
+          let long = refusal-length r in
+          ap (λ (x : Output). x .buffer) (has-room s b h)
+          ∙ ap (written b) e
+          ∙ laid b (refusalBytes r) (omega (arith, long, refusal-room (r .number), h))
+          ∙ ap (λ (m : ℕ). refusalBytes r ++ drop m b) long
+
+    refused-record : (n : ℕ) → solveOf s b .outcome ≡ Refused n →
+        (outputOf s b .size ≡ refusalSize n) × (outputOf s b .buffer ≡ refusalBytes (refusalFor s n) ++ drop (refusalSize n) b)
+    refused-record n e =
+        let r = refusalFor s n in
+        let bytes = when-refused s b h n e .1 in
+        let number = ap (λ (m : ℕ). refusalSize m) (number-for s n) in (
+          refusal-sized r bytes ∙ number,
+          refusal-left r bytes ∙ ap (λ (m : ℕ). refusalBytes r ++ drop m b) number,
+        )
+
+    void-record : (v : VoidStation) → solveOf s b .outcome ≡ RefusedVoid v →
+        (outputOf s b .size ≡ voidRefusalSize) × (outputOf s b .buffer ≡ refusalBytes (voidRefusalFor s v) ++ drop voidRefusalSize b)
+    unfolding voidRefusalFor
+    void-record v e =
+        let bytes = when-void s b h v e .1 in
+        (refusal-sized (voidRefusalFor s v) bytes, refusal-left (voidRefusalFor s v) bytes)
+
+    -- The job, the revision, the station and the reason fit their fields, so reading the record gives them back.
+    void-held : (v : VoidStation) → solveOf s b .outcome ≡ RefusedVoid v → AreBytes s → RefusalHeld (voidRefusalFor s v)
+    unfolding voidRefusalFor
+    void-held v e bytes =
+        record {
+          job = number-lt (JOB .width) (JOB .offset) s bytes;
+          revision = number-lt (REVISION .width) (REVISION .offset) s bytes;
+          number = omega arith;
+          station = j-fits (problemFrom s) v (void-seen s b v e);
+          reason = omega (arith, number-most (v .reason));
+          absent = λ other. absurd (other refl);
+        }
+
+    void-read : (v : VoidStation) → solveOf s b .outcome ≡ RefusedVoid v → AreBytes s →
+        refusalOf (outputOf s b .buffer) ≡ voidRefusalFor s v
+    void-read v e bytes =
+        ap refusalOf (void-record v e .1) ∙ refusal-back (voidRefusalFor s v) (drop voidRefusalSize b) (void-held v e bytes)
+
     pub recording : Recording s b
     recording =
         let r = has-room s b h in
         record {
           answered = λ n e.
-              let w = when-answered s b n h e in
+              let w = when-answered s b h n e in
               (ap (λ (x : Output). x .size) r ∙ w .1, ap (λ (x : Output). x .buffer) r ∙ sym (w .0));
-          refused = λ n e.
-              let w = when-refused s b n h e in
-              let k : length (refusalRecord s n) ≡ refusalSize n = refusal-record-length s n in (
-                ap (λ (x : Output). x .size) r ∙ ap length (w .1) ∙ k,
-                ap (λ (x : Output). x .buffer) r
-                    ∙ ap (written b) (w .1)
-                    ∙ laid b (refusalRecord s n) (omega (arith, k, h))
-                    ∙ ap (λ (m : ℕ). refusalRecord s n ++ drop m b) k,
-              );
+          refused = refused-record;
+          void = void-record;
+          voidRead = void-read;
           size = record-size s b h;
           fits = record-short s;
           starts = record-first s b h;

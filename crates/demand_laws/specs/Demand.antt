@@ -5,32 +5,35 @@ use mathlib.Core.Bool.{Bool, true, false, cond, not}
 use mathlib.Core.Logic.{_⊎_}
 use mathlib.Core.List.{List, _++_, map}
 use Prim.Native.Nat.{ℕ, _+_, _-_, _^_, _≤_, _<_}
-use lib.IntN.{pos, _+ℤ_}
+use lib.IntN.{pos, _+ℤ_, _*ℤ_}
 use lib.Ieee.{Float}
 use lib.ListN.{length, getD, take, drop}
-use Rattle.question_record.specs.Record.{refusalRecord, recordOf, outputOf}
+use Rattle.question_record.specs.Record.{refusalFor, voidRefusalFor, recordOf, outputOf}
 use Rattle.float64.specs.Notation.{_≺_, 0F, 1F}
 use Rattle.float64.specs.Value.{finiteOf, magnitudeOf}
 use Rattle.geometry.specs.Triangles.{shapeOf}
 use Rattle.little_endian.specs.Bytes.{AreBytes}
-use Rattle.records.specs.Layout.{entrySize, answerSize, answerRoom, refusalSize}
-use Rattle.records.specs.Records.{questionOf, headOf, answerHeadOf, entryOf, entryBytes, answerBytes}
+use Rattle.records.specs.Layout.{entrySize, answerSize, answerRoom, refusalSize, voidRefusalSize}
+use Rattle.records.specs.Records.{questionOf, headOf, answerHeadOf, entryOf, entryBytes, answerBytes, refusalOf, refusalBytes}
 use Rattle.records.specs.declared.Entry.{Entry}
 use Rattle.entrance.specs.Judge.{Check, checks, longWay, problemOf}
 use Rattle.entrance.specs.Table.{appliesIn, conditionOf, First, Exactly}
 use Rattle.entrance.specs.declared.Problem.{Problem}
+use Rattle.hypergeometric.specs.declared.reasons.Reason.{Reason}
+use Rattle.flight_time.specs.Steps.{stationSpacing}
 use Rattle.flight_time.specs.declared.Place.the-variants.{Timed, Void}
 use Rattle.bisection.specs.Pairs.{bracketOf}
 use Rattle.sweep.specs.Crossings.{crossings}
+use Rattle.sweep.specs.declared.walks.VoidStation.{VoidStation}
 use Rattle.crossing_laws.specs.Brackets.{IsBracket}
 use Rattle.crossing_laws.specs.Listed.{Listed, Rising}
 use Rattle.bisection.specs.declared.Bracket.{Bracket}
 use Rattle.velocity.specs.Chosen.{upperChosen}
-use Rattle.solver.specs.declared.Outcome.the-variants.{Refused, Answered}
+use Rattle.solver.specs.declared.Outcome.the-variants.{Refused, RefusedVoid, Answered}
 use Rattle.entries.specs.Entries.{placeOf, velocitiesAt, endNumber, entryFor, entryFinite}
 use Rattle.solver.specs.Crossed.{sidesOf, gridOf, lastPlace}
 use Rattle.solver.specs.Table.{lateChecks}
-use Rattle.solver.specs.Solve.{solveOf}
+use Rattle.solver.specs.Solve.{solveOf, outcomeNumber}
 
 -- The problem that a question's bytes describe.
 abbrev pub problemFrom : List ℕ → Problem
@@ -51,14 +54,19 @@ rowOf s room n = appliesIn (tableOf s room) n
 abbrev pub HasAnswer : List ℕ → List ℕ → Type 0
 HasAnswer s b = (n : ℕ) × (solveOf s b .outcome ≡ Answered n)
 
+-- The question is refused with the number n, which is above 0.
+abbrev pub IsRefused : List ℕ → List ℕ → ℕ → Type 0
+IsRefused s b n = (0 < n) × (outcomeNumber (solveOf s b .outcome) ≡ n)
+
 -- When a question is refused, with which number, and when it is answered.
 pub record Demand1 (s b : List ℕ) : Type 0 where
   -- A number is given exactly if its own row applies and no earlier one does. An answer is given exactly if no row applies.
-  pub refused : (n : ℕ) → 0 < n → Exactly (solveOf s b .outcome ≡ Refused n) (First (rowOf s (length b)) n)
+  pub refused : (n : ℕ) → 0 < n → Exactly (IsRefused s b n) (First (rowOf s (length b)) n)
   pub answered : Exactly (HasAnswer s b) ((n : ℕ) → rowOf s (length b) n ≡ false)
-  -- The number of a refusal is from 1 to 14, and a refusal leaves the buffer unchanged.
-  pub number : (n : ℕ) → solveOf s b .outcome ≡ Refused n → (0 < n) × (n ≤ 14)
-  pub untouched : (n : ℕ) → solveOf s b .outcome ≡ Refused n → solveOf s b .buffer ≡ b
+  -- The number of a refusal is from 1 to 14, and a refusal leaves the buffer unchanged. The number 0 belongs to an answer.
+  pub number : (n : ℕ) → IsRefused s b n → n ≤ 14
+  pub untouched : (n : ℕ) → IsRefused s b n → solveOf s b .buffer ≡ b
+  pub zero : Exactly (HasAnswer s b) (outcomeNumber (solveOf s b .outcome) ≡ 0)
 
 -- ---- demand 2: no definition is needed here, because the contracts of `solve` and `write_record` say that what they return and what they
 -- leave in the buffer is what `solveOf` and `outputOf` give, bit for bit
@@ -111,7 +119,17 @@ TimedAll p = (i : ℕ) → i ≤ lastPlace p → (t : Float) × (placeOf p (grid
 
 -- Some place of the grid is void.
 abbrev pub VoidSome : Problem → Type 0
-VoidSome p = (i : ℕ) × ((i ≤ lastPlace p) × (placeOf p (gridOf p .place i) ≡ Void))
+VoidSome p = (i : ℕ) × ((i ≤ lastPlace p) × ((reason : Reason) × (placeOf p (gridOf p .place i) ≡ Void reason)))
+
+-- The station that comes with number 12 is the first void place of the grid.
+pub record FirstVoid (p : Problem) (station : VoidStation) : Type 0 where
+  -- It is place `index` of the grid, at k = j·2^20.
+  pub index : ℕ
+  pub within : index ≤ lastPlace p
+  pub placeIs : gridOf p .place index ≡ station .j *ℤ pos stationSpacing
+  -- It is void for the reason that comes with it, and every lower place has a time.
+  pub voidIs : placeOf p (gridOf p .place index) ≡ Void (station .reason)
+  pub lower : (i : ℕ) → i < index → (t : Float) × (placeOf p (gridOf p .place i) ≡ Timed t)
 
 -- There is no crossing.
 abbrev pub NonePair : Problem → Type 0
@@ -170,13 +188,16 @@ pub record Demand3 (s b : List ℕ) : Type 0 where
       ((1 ≤ length (pairsOf (problemFrom s))) × (length (pairsOf (problemFrom s)) ≤ 8) × FiniteAll (problemFrom s))
   pub answer : (n : ℕ) → solveOf s b .outcome ≡ Answered n → Answer s b n
   -- Number 11 (no transfer was found) is given exactly if every place of the grid has a time and there is no crossing.
-  pub eleven : Exactly (solveOf s b .outcome ≡ Refused 11) (TimedAll (problemFrom s) × NonePair (problemFrom s))
+  pub eleven : Exactly (IsRefused s b 11) (TimedAll (problemFrom s) × NonePair (problemFrom s))
   -- Any other refusal is 12, 13 or 14, each exactly if 01's table says so.
-  pub twelve : Exactly (solveOf s b .outcome ≡ Refused 12) (VoidSome (problemFrom s) × NonePair (problemFrom s))
-  pub thirteen : Exactly (solveOf s b .outcome ≡ Refused 13) (8 < length (pairsOf (problemFrom s)))
-  pub fourteen : Exactly (solveOf s b .outcome ≡ Refused 14)
+  pub twelve : Exactly (IsRefused s b 12) (VoidSome (problemFrom s) × NonePair (problemFrom s))
+  -- Number 12 comes with the first void station and its reason, and no other number does.
+  pub station : IsRefused s b 12 → (v : VoidStation) × (solveOf s b .outcome ≡ RefusedVoid v)
+  pub firstVoid : (v : VoidStation) → solveOf s b .outcome ≡ RefusedVoid v → IsRefused s b 12 × FirstVoid (problemFrom s) v
+  pub thirteen : Exactly (IsRefused s b 13) (8 < length (pairsOf (problemFrom s)))
+  pub fourteen : Exactly (IsRefused s b 14)
       ((1 ≤ length (pairsOf (problemFrom s))) × (length (pairsOf (problemFrom s)) ≤ 8) × FiniteNot (problemFrom s))
-  pub noOther : (n : ℕ) → solveOf s b .outcome ≡ Refused n → (n ≡ 11) ⊎ ((n ≡ 12) ⊎ ((n ≡ 13) ⊎ (n ≡ 14)))
+  pub noOther : (n : ℕ) → IsRefused s b n → (n ≡ 11) ⊎ ((n ≡ 12) ⊎ ((n ≡ 13) ⊎ (n ≡ 14)))
 
 -- ---- the record of a question
 
@@ -186,7 +207,12 @@ pub record Recording (s b : List ℕ) : Type 0 where
   pub answered : (n : ℕ) → solveOf s b .outcome ≡ Answered n →
       (outputOf s b .size ≡ answerSize n) × (outputOf s b .buffer ≡ solveOf s b .buffer)
   pub refused : (n : ℕ) → solveOf s b .outcome ≡ Refused n →
-      (outputOf s b .size ≡ refusalSize n) × (outputOf s b .buffer ≡ refusalRecord s n ++ drop (refusalSize n) b)
+      (outputOf s b .size ≡ refusalSize n) × (outputOf s b .buffer ≡ refusalBytes (refusalFor s n) ++ drop (refusalSize n) b)
+  -- The record of number 12 has the station and the reason, and reading it gives them back. The latter requires that s consists of bytes.
+  pub void : (v : VoidStation) → solveOf s b .outcome ≡ RefusedVoid v →
+      (outputOf s b .size ≡ voidRefusalSize) × (outputOf s b .buffer ≡ refusalBytes (voidRefusalFor s v) ++ drop voidRefusalSize b)
+  pub voidRead : (v : VoidStation) → solveOf s b .outcome ≡ RefusedVoid v → AreBytes s →
+      refusalOf (outputOf s b .buffer) ≡ voidRefusalFor s v
   -- The record is at the buffer's start, fits in the room for the longest answer, and depends on the question's bytes alone.
   pub size : outputOf s b .size ≡ length (recordOf s)
   pub fits : length (recordOf s) ≤ answerRoom

@@ -60,7 +60,7 @@ module _ (p : Problem) where
   few-count h = omega (arith, counted (sidesOf p) (gridOf p) (lastPlace p), h)
 
   -- The report names a void place exactly if some place is void.
-  report-agrees : Agrees (seenOf p) (anyVoid p)
+  pub report-agrees : Agrees (seenOf p) (anyVoid p)
   unfolding seenOf someVoid
   report-agrees = agrees (sidesOf p) (gridOf p) (upTo (lastPlace p + 1))
 
