@@ -3,3 +3,4 @@ pub mod Shapes
 pub mod Questions
 pub mod Times
 pub mod Worked
+pub mod Voids

@@ -12,6 +12,7 @@ use Rattle.closed_case_laws.specs.Given.{withLambda}
 use Rattle.hypergeometric.specs.Steps.{yOf, etaOf, c1Of, nextC, halfAnglesOf, ratioOf, seriesFrom, seriesOf, s4Of, backOf, gOf}
 use Rattle.flight_time.specs.Steps.{outsideRange, xOf, uOf, directOf, withRevolutions}
 use Rattle.flight_time.specs.Time.{timeOf}
+use Rattle.hypergeometric.specs.declared.reasons.Reason.the-variants.{OutsideRange, RefusedRoot, ZeroDivisor, NotFinite}
 use Rattle.flight_time.specs.declared.Place.{Place}
 use Rattle.flight_time.specs.declared.Place.the-variants.{Timed, Void}
 
@@ -33,8 +34,10 @@ too-low = negℤ (pos (2 ^ 32 - 2 ^ 20 + 1))
 
 -- The first rows are timed: the f64 nearest to π/2 at L = 0 and x = 0, the same at L = -0, then L = 0.6 at x = 0, and
 -- L = 0 at x = 0 with M = 1. Next are two times whose last digits show that the series has sixteen terms, and not
--- fifteen or seventeen. The other rows are void. They have, in this order, a refused root, a zero divisor, an L of
--- magnitude 1, an L that is a NaN, an M of 17, and three times a k just past an end of its range.
+-- fifteen or seventeen. The other rows are void, each with its reason: at the first station a refused root, then a zero
+-- divisor, each without and with whole revolutions; an L of magnitude 1 at the first station, at x = 0 and at the last
+-- station, without and with whole revolutions; an L that is a NaN, an M of 17, and three times a k just past an end of
+-- its range. No L, k and M are known with a result that is not finite: see Voids.
 pub rows : List Row
 rows =
     row 0 (pos 0) 0 (Timed (bits 0x3FF9_21FB_5444_2D18))
@@ -43,14 +46,19 @@ rows =
     ∷ row 0 (pos 0) 1 (Timed (bits 0x4012_D97C_7F33_21D2))
     ∷ row 0xBFEF_448B_0B8A_EB45 (pos 17099233261) 0 (Timed (bits 0x3FDC_FC14_B3AB_7880))
     ∷ row 0xBFEE_4487_E8E5_3368 (pos 17163421851) 0 (Timed (bits 0x3FDB_EDA0_859A_6DE0))
-    ∷ row 0xBFEF_FFFF_ED68_3896 low 0 Void
-    ∷ row 0xBFEF_FFFF_FFCC_9337 low 0 Void
-    ∷ row 0xBFF0_0000_0000_0000 (pos 0) 0 Void
-    ∷ row 0x7FF8_0000_0000_0000 (pos 0) 0 Void
-    ∷ row 0 (pos 0) 17 Void
-    ∷ row 0 too-low 0 Void
-    ∷ row 0 (pos (2 ^ 34 + 1)) 0 Void
-    ∷ row 0 (pos (2 ^ 32 - 2 ^ 20 + 1)) 1 Void
+    ∷ row 0xBFEF_FFFF_ED68_3896 low 0 (Void RefusedRoot)
+    ∷ row 0xBFEF_FFFF_FFFF_FDFF low 16 (Void RefusedRoot)
+    ∷ row 0xBFEF_FFFF_FFCC_9337 low 0 (Void ZeroDivisor)
+    ∷ row 0xBFEF_FFFF_FFFF_F001 low 16 (Void ZeroDivisor)
+    ∷ row 0x3FF0_0000_0000_0000 low 0 (Void OutsideRange)
+    ∷ row 0xBFF0_0000_0000_0000 (pos 0) 0 (Void OutsideRange)
+    ∷ row 0x3FF0_0000_0000_0000 (pos (2 ^ 34)) 0 (Void OutsideRange)
+    ∷ row 0x3FF0_0000_0000_0000 (pos (2 ^ 32 - 2 ^ 20)) 1 (Void OutsideRange)
+    ∷ row 0x7FF8_0000_0000_0000 (pos 0) 0 (Void OutsideRange)
+    ∷ row 0 (pos 0) 17 (Void OutsideRange)
+    ∷ row 0 too-low 0 (Void OutsideRange)
+    ∷ row 0 (pos (2 ^ 34 + 1)) 0 (Void OutsideRange)
+    ∷ row 0 (pos (2 ^ 32 - 2 ^ 20 + 1)) 1 (Void OutsideRange)
     ∷ []
 
 pub each-row-holds : map (λ (r : Row). timeOf (withLambda (r .L)) (r .k) (r .m)) rows ≡ map (λ (r : Row). r .place) rows
@@ -61,12 +69,14 @@ each-row-holds = refl
 -- 1 for a timed place, 0 for a void place.
 abbrev pub timed : Place → ℕ
 timed (Timed t) = 1
-timed Void = 0
+timed (Void reason) = 0
 
 -- The ends of the ranges of k, without whole revolutions and with sixteen. All of them have a time (`ends-are-timed`).
--- The `Void` in these rows is a placeholder that the statement does not use.
+-- The void places in these rows are placeholders that the statement does not use.
 pub ends : List Row
-ends = row 0 low 0 Void ∷ row 0 (pos (2 ^ 34)) 0 Void ∷ row 0 (pos (2 ^ 32 - 2 ^ 20)) 16 Void ∷ row 0 low 16 Void ∷ []
+ends =
+    let unused : Place = Void NotFinite in
+    row 0 low 0 unused ∷ row 0 (pos (2 ^ 34)) 0 unused ∷ row 0 (pos (2 ^ 32 - 2 ^ 20)) 16 unused ∷ row 0 low 16 unused ∷ []
 
 pub ends-are-timed : map (λ (r : Row). timed (timeOf (withLambda (r .L)) (r .k) (r .m))) ends ≡ 1 ∷ 1 ∷ 1 ∷ 1 ∷ []
 unfolding ends row withLambda timeOf outsideRange xOf uOf yOf etaOf c1Of nextC halfAnglesOf ratioOf seriesFrom seriesOf s4Of backOf gOf

@@ -10,6 +10,7 @@ use Rattle.float64.specs.declared.Root.{Root}
 use Rattle.float64.specs.declared.Root.the-variants.{Value, Refused}
 use Rattle.float64.specs.declared.Vector.{Vector}
 use Rattle.flight_time.specs.Time.{timeOf}
+use Rattle.hypergeometric.specs.declared.reasons.Reason.the-variants.{OutsideRange}
 use Rattle.flight_time.specs.declared.Place.{Place}
 use Rattle.flight_time.specs.declared.Place.the-variants.{Timed, Void}
 use Rattle.records.specs.Layout.{answerRoom}
@@ -59,8 +60,8 @@ rows =
     ∷ (time 0 (pos (2 ^ 32)) 0 gives aPlace (Timed (bits 0x3FE5_5555_5555_5555)))
     ∷ (time 0xBFE0_0000_0000_0000 (pos (2 ^ 32)) 0 gives aPlace (Timed (bits 0x3FE8_0000_0000_0000)))
     -- Void places: L = 0, M = 1 at x = 1, and L = 1.
-    ∷ (time 0 (pos (2 ^ 32)) 1 gives aPlace Void)
-    ∷ (time ONE (pos 0) 0 gives aPlace Void)
+    ∷ (time 0 (pos (2 ^ 32)) 1 gives aPlace (Void OutsideRange))
+    ∷ (time ONE (pos 0) 0 gives aPlace (Void OutsideRange))
     -- Refusals: size 81, job 0, radius 0.5, M = 17, mu 0.5, r2 = 2·r1.
     ∷ (question (take 81 (like 7 1 (flat ONE 0) (flat 0 ONE) ONE)) gives aNumber 1)
     ∷ (question (like 0 1 (flat ONE 0) (flat 0 ONE) ONE) gives aNumber 1)

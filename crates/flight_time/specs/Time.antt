@@ -34,6 +34,10 @@ abbrev pub afterAngles : HalfAngles → (Angles → Place) → Place
 afterAngles (Known angles) next = next angles
 afterAngles (Void reason) next = Void reason
 
+-- The place with the given time, or void if the time is not finite. This is the last test.
+abbrev pub ifFinite : Float → Place
+ifFinite time = voidIf (not (finiteOf time)) NotFinite (Timed time)
+
 -- The time at the place k of a triangle, with the given number of whole revolutions. It is a finite number, or void for
 -- the first reason that the steps meet.
 unfoldable pub timeOf : Triangle → ℤ → ℕ → Place
@@ -43,8 +47,7 @@ timeOf t k revolutions =
     let u = uOf x in
     afterAngles (halfAnglesOf (t .lambda) x u) (λ angles.
     afterStep (gOf angles) (λ g.
-    afterStep (withRevolutions (directOf (t .lambda) (angles .eta) g) u revolutions) (λ time.
-    voidIf (not (finiteOf time)) NotFinite (Timed time)))))
+    afterStep (withRevolutions (directOf (t .lambda) (angles .eta) g) u revolutions) ifFinite)))
 
 -- The bits of a time. For a void place they are those of the first quiet NaN plus the number of the reason. This is our
 -- own choice: the result is the pattern of a NaN, and no time of `timeOf` is a NaN.

@@ -2,18 +2,14 @@
 -- case of a step that is void, and it passes on the reason.
 use Prim.Native.Nat.{ℕ}
 use mathlib.Core.Path.{_≡_, sym}
-use mathlib.Core.Bool.{not}
 use mir.Facts.{toZ-ofZ}
 use lib.Ieee.{Float}
-use Rattle.float64.specs.Value.{finiteOf}
 use Rattle.geometry.specs.declared.Triangle.{Triangle}
 use Rattle.hypergeometric.specs.Steps.{gOf}
-use Rattle.hypergeometric.specs.declared.reasons.Reason.the-variants.{NotFinite}
 use Rattle.hypergeometric.specs.declared.results.Angles.{Angles}
 use Rattle.flight_time.specs.Steps.{outsideRange, xOf, directOf, withRevolutions}
-use Rattle.flight_time.specs.Time.{timeOf, voidIf, afterStep, afterAngles}
+use Rattle.flight_time.specs.Time.{timeOf, ifFinite, afterStep, afterAngles}
 use Rattle.flight_time.specs.declared.Place.{Place}
-use Rattle.flight_time.specs.declared.Place.the-variants.{Timed}
 use borrow.Author.Needs.{needs}
 use Rattle.flight_time.proofs.time_at.Statement.{statement}
 use Rattle.flight_time.proofs.time_at.Tie as tie
@@ -29,14 +25,11 @@ x-is : (c : tie.After-x-at) → c .x-at .result ≡ xOf (c .before .before .befo
 x-is c = rw (toZ-ofZ (c .before .before .before .fits .k)) at (c .x-at .ensures)
 
 -- ---- the rest of the steps
--- `from-angles`, `from-g` and `from-time` are the steps that remain once the angles, G or the time are known.
+-- `from-angles` and `from-g` are the steps that remain once the angles or G are known, and `ifFinite` is the last test.
 -- `to-angles`, `to-g` and `to-time` show that `timeOf` is equal to the result of the call that computes the angles, G
 -- or the time, followed by those steps.
-abbrev from-time : Float → Place
-from-time time = voidIf (not (finiteOf time)) NotFinite (Timed time)
-
 abbrev from-g : Triangle → Float → ℕ → Angles → Float → Place
-from-g t u revolutions angles g = afterStep (withRevolutions (directOf (t .lambda) (angles .eta) g) u revolutions) from-time
+from-g t u revolutions angles g = afterStep (withRevolutions (directOf (t .lambda) (angles .eta) g) u revolutions) ifFinite
 
 abbrev from-angles : Triangle → Float → ℕ → Angles → Place
 from-angles t u revolutions angles = afterStep (gOf angles) (from-g t u revolutions angles)
@@ -70,7 +63,7 @@ to-time : (c : tie.After-with-revolutions)
     let angles = g .before .before .before .before in
     let u = angles .before .before .before in
     let a = u .before .before .before .before .args in
-    timeOf (a .triangle) (a .k) (a .revolutions) ≡ afterStep (c .with-revolutions .result) from-time
+    timeOf (a .triangle) (a .k) (a .revolutions) ≡ afterStep (c .with-revolutions .result) ifFinite
 to-time c =
     let direct = c .before in
     let g = direct .before .before in
