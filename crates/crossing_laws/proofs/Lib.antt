@@ -3,5 +3,6 @@ pub mod AnyTriangle
 pub mod BracketLaws
 pub mod Corners
 pub mod FiniteTimes
+pub mod FirstReason
 pub mod FirstVoids
 pub mod Theorems

@@ -1,3 +1,4 @@
 pub mod Brackets
 pub mod FirstVoid
 pub mod Listed
+pub mod StepTests
