@@ -66,7 +66,7 @@ fn is_last((question, record): &(Question, Record)) -> bool {
 /// Reports whether two questions of one way were refused for the same reason, so that one line says it of both.
 fn alike((one, first): &(Question, Record), (next, second): &(Question, Record)) -> bool {
     let words = |question, record: &Record| match record.outcome {
-        Outcome::Refused(number) => Some(refused::words(number, Some(question))),
+        Outcome::Refused(refusal) => Some(refused::words(refusal, Some(question))),
         Outcome::Answered(_) => None,
     };
     one.long_way == next.long_way && words(one, first).is_some() && words(one, first) == words(next, second)

@@ -4,21 +4,21 @@
 
 use crate::proved;
 use crate::vectors::{cross, size};
-use crate::wire::{Entry, Outcome, Question};
+use crate::wire::{Entry, Outcome, Question, Refusal};
 
 /// Returns why the outcome cannot be that of the question, or `None` if no reason was found. The question is well-formed.
 pub fn fault(question: &Question, outcome: &Outcome) -> Option<String> {
     let slot = question.bytes();
     match (proved::station_count(&slot), outcome) {
-        (0, Outcome::Answered(_) | Outcome::Refused(11..=14)) => {
+        (0, Outcome::Answered(_) | Outcome::Refused(Refusal { number: 11..=14, .. })) => {
             Some("the question is refused before the search, but the record is that of a search".into())
         }
         // Number 7 depends on the buffer of the program that asked the solver.
-        (0, Outcome::Refused(_)) | (_, Outcome::Refused(7)) => None,
-        (_, Outcome::Refused(number @ ..=10)) => Some(format!(
+        (0, Outcome::Refused(_)) | (_, Outcome::Refused(Refusal { number: 7, .. })) => None,
+        (_, Outcome::Refused(Refusal { number: number @ ..=10, .. })) => Some(format!(
             "the record is refusal {number}, but the question passes the checks before the search"
         )),
-        (count, Outcome::Refused(11)) => stations_differ(&slot, count)?
+        (count, Outcome::Refused(Refusal { number: 11, .. })) => stations_differ(&slot, count)?
             .then(|| "the record says that nothing was found, but the search finds a transfer".into()),
         (_, Outcome::Refused(_)) => None,
         (_, Outcome::Answered(entries)) => {
@@ -134,11 +134,12 @@ mod tests {
     fn refusals_after_the_search_need_a_search() {
         let samples = samples();
         let (searched, refused) = (&samples[1].0, &samples[5].0);
+        let of = |number| Outcome::Refused(Refusal::plain(number));
         for number in [12, 13, 14] {
-            assert_eq!(fault(searched, &Outcome::Refused(number)), None);
-            assert!(fault(refused, &Outcome::Refused(number)).is_some());
+            assert_eq!(fault(searched, &of(number)), None);
+            assert!(fault(refused, &of(number)).is_some());
         }
-        assert_eq!(fault(searched, &Outcome::Refused(7)), None);
-        assert!(fault(searched, &Outcome::Refused(11)).is_some());
+        assert_eq!(fault(searched, &of(7)), None);
+        assert!(fault(searched, &of(11)).is_some());
     }
 }

@@ -41,7 +41,7 @@ fn records(input: Input) -> Result<String, Stop> {
         match next.map_err(|fault| Stop::Said(fault.located(&name, "record")))?.map(|record| record.outcome) {
             None => break,
             Some(Outcome::Answered(entries)) => *answers.entry(entries.len()).or_insert(0u64) += 1,
-            Some(Outcome::Refused(number)) => *refusals.entry(number).or_insert(0u64) += 1,
+            Some(Outcome::Refused(refusal)) => *refusals.entry(refusal.number).or_insert(0u64) += 1,
         }
     }
     let all = counted(records.number, "record");

@@ -22,6 +22,7 @@ mod plot;
 mod propagation;
 #[allow(unsafe_code)]
 mod proved;
+mod reason;
 mod refusal;
 mod show;
 mod similar;

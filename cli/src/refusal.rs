@@ -1,20 +1,33 @@
 //! What the number of a refusal means, in words for a controller. No refusal says that no transfer exists, and each says so.
 
 pub mod nothing_found;
+pub mod void_station;
+
+use crate::wire::Refusal;
 
 /// What no refusal says.
 pub const NOT_SAID: &str = "this does not say that no transfer exists";
 
-/// Returns the meaning of a refusal as one sentence that fits a line.
-pub fn short(number: u16) -> String {
-    format!("{}; {NOT_SAID}", gist(number))
+/// Returns the meaning of a refusal as one sentence. It fits a line, unless it names a void station.
+pub fn short(refusal: Refusal) -> String {
+    let gist = gist(refusal.number);
+    match refusal.void.map(void_station::words) {
+        None => format!("{gist}; {NOT_SAID}"),
+        Some(void) => {
+            format!("{gist}; the first void station is {void}; later ones may be void too; {NOT_SAID}")
+        }
+    }
 }
 
 /// Returns the meaning of a refusal in full.
-pub fn words(number: u16) -> String {
-    match number {
-        11 => row(number).into(),
-        _ => format!("{} ({NOT_SAID})", row(number)),
+pub fn words(refusal: Refusal) -> String {
+    let row = match refusal.number {
+        number @ (11 | 12) => row(number).into(),
+        number => format!("{} ({NOT_SAID})", row(number)),
+    };
+    match refusal.void.map(void_station::words) {
+        None => row,
+        Some(void) => format!("{row}. Here the first void station is {void}"),
     }
 }
 
@@ -27,7 +40,7 @@ fn gist(number: u16) -> &'static str {
     meaning(number).map_or(UNKNOWN, |meaning| meaning.gist)
 }
 
-/// Returns the row of a number in the table of docs/FORMAT.md. The row of 11 itself says what it does not say.
+/// Returns the row of a number in the table of docs/FORMAT.md. The rows of 11 and 12 themselves say what they do not say.
 fn row(number: u16) -> &'static str {
     meaning(number).map_or(UNKNOWN, |meaning| meaning.row)
 }
@@ -125,8 +138,10 @@ static MEANINGS: [Meaning; 14] = [
     // 12
     Meaning {
         gist: "nothing was found in an incomplete search",
-        row: "nothing was found, but at least one step of the search has no flight time, so a transfer \
-              there would be missed: the search is incomplete, and nothing follows from it",
+        row: "nothing was found, but at least one step of the search, a station, is void: it has no flight \
+              time, so a transfer there would be missed. The search is incomplete, and nothing follows from \
+              it. The record has the first void station in rising x and the reason. This does not say that \
+              no transfer exists, nor that later stations have times",
         advice: "keep the question and report it: no such question is known",
     },
     // 13

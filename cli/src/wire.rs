@@ -4,12 +4,15 @@ pub mod form;
 pub mod frames;
 pub mod question;
 pub mod record;
+pub mod refusal;
 pub mod slots;
+mod stations;
 
 pub use form::ROOM;
 pub use frames::Frames;
 pub use question::{Question, Slots, SLOT};
 pub use record::{Entry, Outcome, Record, Records};
+pub use refusal::{Refusal, VoidStation};
 
 /// Defines a function that reads the number at a position of some bytes. It panics if there are too few bytes.
 macro_rules! number_at {
@@ -26,6 +29,7 @@ macro_rules! number_at {
 number_at!(u16_at, u16);
 number_at!(u32_at, u32);
 number_at!(u64_at, u64);
+number_at!(i32_at, i32);
 number_at!(i64_at, i64);
 number_at!(f64_at, f64);
 

@@ -36,7 +36,9 @@ pub fn sentences(origin: &Origin, names: &Names) -> Vec<String> {
 fn phrase(held: &Held) -> String {
     match held {
         Held::Conflict => CONFLICT.into(),
-        Held::Outcome(Outcome::Refused(number)) => format!("refused {number}: {}", refusal::short(*number)),
+        Held::Outcome(Outcome::Refused(refusal)) => {
+            format!("refused {}: {}", refusal.number, refusal::short(*refusal))
+        }
         Held::Outcome(Outcome::Answered(entries)) => {
             let transfers: Vec<String> = entries.iter().map(transfer).collect();
             format!("{}: {}", counted(entries.len() as u64, "transfer"), transfers.join("; "))

@@ -1,7 +1,7 @@
 //! The first difference of two well-formed records: its byte, the name of the field there, and both values in full.
 
 use crate::wire::form::{ENTRY, HEAD};
-use crate::wire::{f64_at, i64_at, u16_at, u32_at};
+use crate::wire::{f64_at, i32_at, i64_at, u16_at, u32_at};
 use crate::words::number;
 
 #[derive(Debug, PartialEq)]
@@ -27,6 +27,12 @@ const OF_HEAD: [(usize, &str, Value); 4] = [
     (4, "kind", |bytes, at| u16_at(bytes, at).to_string()),
     (6, "job", |bytes, at| u32_at(bytes, at).to_string()),
     (10, "revision", |bytes, at| u32_at(bytes, at).to_string()),
+];
+
+/// The fields of refusal 12 after its head.
+const OF_VOID_STATION: [(usize, &str, Value); 2] = [
+    (0, "j of the first void station", |bytes, at| i32_at(bytes, at).to_string()),
+    (4, "reason of the first void station", |bytes, at| u16_at(bytes, at).to_string()),
 ];
 
 const OF_ENTRY: [(usize, &str, Value); 9] = [
@@ -63,6 +69,10 @@ fn field_at(record: &[u8], at: usize) -> (usize, String, Value) {
     let last = |fields: &[(usize, &'static str, Value)], at| {
         *fields.iter().rev().find(|(begin, ..)| *begin <= at).expect("the first field begins at 0")
     };
+    if at >= HEAD && u16_at(record, 4) == 3 {
+        let (begin, name, value) = last(&OF_VOID_STATION, at - HEAD);
+        return (HEAD + begin, name.into(), value);
+    }
     if at >= HEAD {
         let i = (at - HEAD) / ENTRY;
         let (begin, name, value) = last(&OF_ENTRY, (at - HEAD) % ENTRY);
@@ -119,6 +129,48 @@ mod tests {
         let nan = |bits: u64| [&answer()[..32], &bits.to_le_bytes(), &answer()[40..]].concat();
         let found = first(&nan(0x7ff8_0000_0000_0001), &nan(0x7ff8_0000_0000_0002)).expect("a difference");
         assert_eq!(found.values, ["NaN (bits 7ff8000000000001)", "NaN (bits 7ff8000000000002)"]);
+    }
+
+    #[test]
+    fn two_refusals_12_differ_in_their_void_stations() {
+        let refusal = |j: i32, reason: u16| {
+            let head = [18, 0, 0, 0, 3, 0, 7, 0, 0, 0, 1, 0, 0, 0, 12, 0];
+            [&head[..], &j.to_le_bytes(), &reason.to_le_bytes()].concat()
+        };
+        for (one, other, words) in [
+            (
+                refusal(-4095, 1),
+                refusal(16_384, 2),
+                "byte 16 of the record, j of the first void station: -4095 and 16384",
+            ),
+            (
+                refusal(-1, 1),
+                refusal(-257, 1),
+                "byte 16 of the record, j of the first void station: -1 and -257",
+            ),
+            (
+                refusal(i32::MIN, 1),
+                refusal(0, 1),
+                "byte 16 of the record, j of the first void station: -2147483648 and 0",
+            ),
+            (
+                refusal(5, 1),
+                refusal(5, 2),
+                "byte 20 of the record, reason of the first void station: 1 and 2",
+            ),
+            (
+                refusal(5, 1),
+                refusal(5, 0xff01),
+                "byte 20 of the record, reason of the first void station: 1 and 65281",
+            ),
+        ] {
+            let found = first(&one, &other).expect("a difference");
+            assert_eq!(found.sentence(), format!("they differ first at {words}"));
+        }
+        assert_eq!(first(&refusal(5, 1), &refusal(5, 1)), None);
+        let plain = [12, 0, 0, 0, 3, 0, 7, 0, 0, 0, 1, 0, 0, 0, 11, 0];
+        let found = first(&refusal(5, 1), &plain).expect("a difference");
+        assert_eq!(found.sentence(), "they differ first at byte 0 of the record, length: 18 and 12");
     }
 
     #[test]

@@ -7,7 +7,7 @@ use super::origins::{Kept, Origin, Place};
 use super::posting::Posting;
 use crate::json::{array, number, object, string};
 use crate::orbit::{kind, x_of};
-use crate::refusal;
+use crate::refusal::{self, void_station};
 use crate::vectors::size;
 use crate::wire::slots::{filled, held, Filled, Held};
 use crate::wire::{Entry, Outcome};
@@ -39,9 +39,10 @@ fn outcome(held: &Held) -> Fields {
     let state = |name| ("state", string(name));
     match held {
         Held::Conflict => vec![state("conflict")],
-        Held::Outcome(Outcome::Refused(reason)) => {
-            let meaning = string(&refusal::words(*reason));
-            vec![state("refused"), ("number", reason.to_string()), ("meaning", meaning)]
+        Held::Outcome(Outcome::Refused(refusal)) => {
+            let (number, meaning) = (refusal.number.to_string(), string(&refusal::words(*refusal)));
+            let void = refusal.void.map(|void| (void_station::NAME, void_station::object(void)));
+            [state("refused"), ("number", number), ("meaning", meaning)].into_iter().chain(void).collect()
         }
         Held::Outcome(Outcome::Answered(entries)) => {
             vec![state("answered"), ("transfers", array(entries.iter().map(transfer)))]

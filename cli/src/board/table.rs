@@ -71,11 +71,11 @@ fn lines(slot: &Filled, posting: &Posting, look: &Look, layout: &Layout) -> Vec<
             lines.extend(said.iter().flat_map(|words| say(None, words)));
             lines
         }
-        Held::Outcome(Outcome::Refused(number)) => {
-            let mut lines =
-                say(Some(Mark::Refusal), &format!("refused {number}: {}", refusal::short(*number)));
+        Held::Outcome(Outcome::Refused(refusal)) => {
+            let line = format!("refused {}: {}", refusal.number, refusal::short(*refusal));
+            let mut lines = say(Some(Mark::Refusal), &line);
             if look.explain {
-                lines.extend(fit(None, &refusal::words(*number), look.columns.or(Some(WIDE))));
+                lines.extend(fit(None, &refusal::words(*refusal), look.columns.or(Some(WIDE))));
             }
             lines
         }

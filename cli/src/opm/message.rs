@@ -10,7 +10,7 @@ use crate::proved::orbit_message;
 use crate::refusal;
 use crate::show::facts::Facts;
 use crate::show::table;
-use crate::wire::{Entry, Outcome, Question, Record};
+use crate::wire::{Entry, Outcome, Question, Record, Refusal};
 use crate::words::number;
 
 /// The numbers of the refusals, B1, B5, B6 and B7.
@@ -38,7 +38,7 @@ pub fn make(request: &Request, sources: &Sources) -> Result<OrbitMessage, Vec<St
     let record = Record::read(bytes).map_err(|(_, words)| say(words))?;
     let key = (record.job, record.revision);
     let entries = match &record.outcome {
-        Outcome::Refused(number) => return Err(say(refused(key, *number))),
+        Outcome::Refused(refusal) => return Err(say(refused(key, *refusal))),
         Outcome::Answered(entries) => entries,
     };
     let question = sources.questions.find(key).map_err(say)?;
@@ -76,10 +76,9 @@ fn warnings(which: &str, facts: &Facts) -> Vec<String> {
     warnings
 }
 
-fn refused(key: Key, number: u16) -> String {
-    let words = refusal::words(number);
+fn refused(key: Key, refusal: Refusal) -> String {
     let record = format!("the record of {} is a refusal, so it has no entry to write", words_of(key));
-    format!("{record}. Refusal {number}: {words}")
+    format!("{record}. Refusal {}: {}", refusal.number, refusal::words(refusal))
 }
 
 /// Returns a sentence that says that an answer has several transfers, and lists them as `show` does.

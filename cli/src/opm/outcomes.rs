@@ -4,7 +4,7 @@
 use super::request::{Key, Request};
 use crate::stop::Stop;
 use crate::streams::Input;
-use crate::wire::{form, Frames, Record};
+use crate::wire::{Frames, Record};
 use std::collections::{BTreeMap, BTreeSet};
 use std::io::BufReader;
 
@@ -55,7 +55,7 @@ impl Outcomes {
                 Ok(None) => return Ok(Outcomes { name: name.clone(), records, by_key }),
                 Ok(Some(bytes)) => bytes,
             };
-            let record = match form::framed(&bytes).and_then(|()| Record::read(&bytes)) {
+            let record = match Record::read(&bytes) {
                 Err((at, words)) => break frames.fault(at, words),
                 Ok(record) => record,
             };

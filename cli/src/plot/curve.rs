@@ -35,7 +35,7 @@ impl Curve {
 #[cfg(test)]
 mod tests {
     use super::*;
-    use crate::wire::{Record, SLOT};
+    use crate::wire::{Record, Refusal, SLOT};
 
     #[test]
     fn the_curve_crosses_where_the_record_says() {
@@ -57,7 +57,7 @@ mod tests {
     fn a_refusal_at_the_entrance_has_no_curve() {
         let samples = include_bytes!("../../../samples/questions");
         for slot in [&samples[5 * SLOT..], &samples[..81], &[]] {
-            assert!(Curve::of(slot, &Outcome::Refused(1)).is_none());
+            assert!(Curve::of(slot, &Outcome::Refused(Refusal::plain(1))).is_none());
         }
     }
 }

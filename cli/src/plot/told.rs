@@ -4,7 +4,7 @@ use super::curve::Curve;
 use super::measure::NO_BREAK;
 use crate::orbit::{end, kind, x_of};
 use crate::show::refused;
-use crate::wire::{Entry, Outcome, Question};
+use crate::wire::{Entry, Outcome, Question, Refusal};
 use crate::words::{asked, number};
 
 /// Returns the question in words.
@@ -15,7 +15,7 @@ pub fn question(question: &Question) -> String {
 /// Returns the outcome in words: an item for each bracket, or the refusal.
 pub fn outcome(question: &Question, outcome: &Outcome) -> Vec<String> {
     match outcome {
-        Outcome::Refused(number) => refused(question, *number),
+        Outcome::Refused(refusal) => refused(question, *refusal),
         Outcome::Answered(entries) => {
             entries.iter().enumerate().map(|(i, entry)| bracket(i, entry)).collect()
         }
@@ -23,8 +23,8 @@ pub fn outcome(question: &Question, outcome: &Outcome) -> Vec<String> {
 }
 
 /// Returns the meaning of a refusal, and what to do about it.
-fn refused(question: &Question, number: u16) -> Vec<String> {
-    let words = refused::words(number, Some(question));
+fn refused(question: &Question, refusal: Refusal) -> Vec<String> {
+    let (number, words) = (refusal.number, refused::words(refusal, Some(question)));
     vec![format!("refused {number}: {words}"), refused::advice(number, Some(question))]
 }
 

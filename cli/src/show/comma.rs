@@ -7,6 +7,7 @@ use super::pairs::Asked;
 use super::refused;
 use crate::csv::line;
 use crate::orbit::{end, kind, x_of};
+use crate::refusal::void_station;
 use crate::vectors::size;
 use crate::wire::{Outcome, Question};
 
@@ -21,25 +22,26 @@ const TESTED: &str =
 pub fn head(with_questions: bool) -> String {
     let more =
         if with_questions { format!(",{QUESTION},{},{TESTED}", NAMES.join(",")) } else { String::new() };
-    format!("{RECORD},{TRANSFER}{more}\n")
+    format!("{RECORD},{TRANSFER}{more},{}\n", void_station::COLUMNS)
 }
 
 pub fn item(item: &Item) -> String {
     let record = item.record;
     let own = [record.job.to_string(), record.revision.to_string()];
     match record.outcome {
-        Outcome::Refused(number) => {
-            let meaning = refused::words(number, item.question());
-            let said = ["refused".into(), number.to_string(), meaning, String::new(), String::new()];
-            line(&[&own[..], &said, &blanks(TRANSFER), &asked_fields(item.asked, None)].concat())
+        Outcome::Refused(refusal) => {
+            let (number, meaning) = (refusal.number.to_string(), refused::words(refusal, item.question()));
+            let said = ["refused".into(), number, meaning, String::new(), String::new()];
+            let (asked, void) = (asked_fields(item.asked, None), void_station::fields(refusal.void));
+            line(&[&own[..], &said, &blanks(TRANSFER), &asked, &void].concat())
         }
         Outcome::Answered(_) => {
             let lines = item.transfers().map(|transfer| {
                 let (number, count) = (transfer.number.to_string(), transfer.count.to_string());
                 let note = item.note().unwrap_or_default().into();
                 let said = ["answered".into(), String::new(), note, number, count];
-                let asked = asked_fields(item.asked, transfer.facts);
-                line(&[&own[..], &said, &transfer_fields(&transfer), &asked].concat())
+                let (asked, void) = (asked_fields(item.asked, transfer.facts), void_station::fields(None));
+                line(&[&own[..], &said, &transfer_fields(&transfer), &asked, &void].concat())
             });
             lines.collect()
         }
@@ -113,14 +115,15 @@ fn float(value: f64) -> String {
 #[cfg(test)]
 mod tests {
     use super::*;
-    use crate::wire::{Entry, Record};
+    use crate::wire::{Entry, Record, Refusal};
 
     #[test]
     fn every_line_has_the_columns_of_the_header() {
         let entry = || Entry { low: 0, halvings: 3, upper_chosen: true, v1: [1.0; 3], v2: [2.0; 3] };
         let answer = Record { job: 1, revision: 2, outcome: Outcome::Answered(vec![entry(), entry()]) };
         let question = Question::read(&include_bytes!("../../../samples/questions")[..82]).expect("one");
-        let refusals = (1..=14).map(|n| Record { job: 1, revision: 2, outcome: Outcome::Refused(n) });
+        let refusals = (1..=14).map(Refusal::plain).chain([Refusal::incomplete(-4095, 2)]);
+        let refusals = refusals.map(|of| Record { job: 1, revision: 2, outcome: Outcome::Refused(of) });
         let records: Vec<Record> = refusals.chain([answer]).collect();
         for asked in [Asked::Unknown, Asked::NoQuestion(String::new()), Asked::Known(question)] {
             let lines: String = records.iter().map(|one| item(&Item::new(one, &asked, None))).collect();
@@ -128,7 +131,7 @@ mod tests {
             let mut rows = crate::csv::Rows::new(text.as_bytes());
             let mut next = || rows.next().expect("good rows").map(|row| row.fields.len());
             let columns = next();
-            assert_eq!(std::iter::from_fn(next).filter(|count| Some(*count) == columns).count(), 16);
+            assert_eq!(std::iter::from_fn(next).filter(|count| Some(*count) == columns).count(), 17);
         }
     }
 }

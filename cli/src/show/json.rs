@@ -7,6 +7,7 @@ use super::pairs::Asked;
 use super::refused;
 use crate::json::{array, number, number_or_null, object, string};
 use crate::orbit::{end, kind, x_of};
+use crate::refusal::void_station;
 use crate::vectors::size;
 use crate::wire::{Outcome, Question};
 
@@ -14,11 +15,14 @@ pub fn item(item: &Item) -> String {
     let record = item.record;
     let mut fields = vec![("job", record.job.to_string()), ("revision", record.revision.to_string())];
     match record.outcome {
-        Outcome::Refused(reason) => fields.extend([
-            ("outcome", string("refused")),
-            ("number", reason.to_string()),
-            ("meaning", string(&refused::words(reason, item.question()))),
-        ]),
+        Outcome::Refused(refusal) => {
+            fields.extend([
+                ("outcome", string("refused")),
+                ("number", refusal.number.to_string()),
+                ("meaning", string(&refused::words(refusal, item.question()))),
+            ]);
+            fields.extend(refusal.void.map(|void| (void_station::NAME, void_station::object(void))));
+        }
         Outcome::Answered(_) => {
             fields.extend([
                 ("outcome", string("answered")),

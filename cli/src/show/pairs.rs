@@ -4,7 +4,7 @@ use crate::belongs;
 use crate::expected;
 use crate::stop::Stop;
 use crate::streams::FileId;
-use crate::wire::{Outcome, Question, Record, Slots};
+use crate::wire::{Outcome, Question, Record, Refusal, Slots};
 use std::io::{BufReader, Read};
 
 pub enum Asked {
@@ -47,7 +47,7 @@ impl Pairs {
 }
 
 fn paired(record: &Record, slot: &[u8], number: u64) -> Result<Asked, String> {
-    let damaged = matches!(record.outcome, Outcome::Refused(1));
+    let damaged = matches!(record.outcome, Outcome::Refused(Refusal { number: 1, .. }));
     match Question::read(slot) {
         Err((_, words)) if damaged => {
             Ok(Asked::NoQuestion(format!("slot {number} is not a question: {words}")))

@@ -8,9 +8,9 @@ use super::layout::{number, words, Layout};
 use super::pairs::Asked;
 use super::view::View;
 use super::{detail, refused};
-use crate::refusal;
+use crate::refusal::NOT_SAID;
 use crate::terminal::Mark;
-use crate::wire::{Outcome, Question, Record};
+use crate::wire::{Outcome, Question, Record, Refusal};
 use crate::words::wrapped;
 
 /// What the first two columns name a record by.
@@ -42,7 +42,7 @@ impl Table {
 
     pub fn item(&self, item: &Item, view: &View) -> String {
         let text = match item.record.outcome {
-            Outcome::Refused(number) => self.refusal(self.names(item), number, item, view),
+            Outcome::Refused(refusal) => self.refusal(self.names(item), refusal, item, view),
             Outcome::Answered(_) => {
                 let rows = item.transfers().map(|transfer| self.transfer(&transfer, item, view));
                 rows.collect()
@@ -79,15 +79,15 @@ impl Table {
         text + &self.indented(&detail, view)
     }
 
-    fn refusal(&self, names: [String; 2], number: u16, item: &Item, view: &View) -> String {
-        let question = item.question();
+    fn refusal(&self, names: [String; 2], refusal: Refusal, item: &Item, view: &View) -> String {
+        let (question, number) = (item.question(), refusal.number);
         let line = match item.asked {
-            Asked::NoQuestion(why) => format!("refused {number}: {why}; {}", refusal::NOT_SAID),
-            _ => format!("refused {number}: {}", refused::short(number, question)),
+            Asked::NoQuestion(why) => format!("refused {number}: {why}; {NOT_SAID}"),
+            _ => format!("refused {number}: {}", refused::short(refusal, question)),
         };
         let mut lines = vec![line];
         if view.explain {
-            lines.extend([refused::words(number, question), refused::advice(number, question)]);
+            lines.extend([refused::words(refusal, question), refused::advice(number, question)]);
         }
         let text = self.indented(&lines, view);
         let text = view.colour.paint(Mark::Refusal, &text);

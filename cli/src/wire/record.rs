@@ -1,15 +1,11 @@
 //! Reads answers and refusals one after the other. A record that breaks a rule of the format is a fault.
 
-use super::form::{behind_head, size_of, ENTRY, HEAD, ROOM};
-use super::{f64_at, i64_at, read_full, u16_at, u32_at, Fault};
+use super::form::{framed, size_of, ENTRY, HEAD, ROOM};
+use super::stations::{FIRST, LAST, STATION};
+use super::{f64_at, i64_at, read_full, u16_at, u32_at, Fault, Refusal};
 use crate::proved::record_of;
 use crate::stop::Stop;
 use std::io::{self, Read};
-
-/// The stations are 2^20 apart, from -2^32 + 2^20 to 2^34.
-const STATION: i64 = 1 << 20;
-const FIRST: i64 = STATION - (1 << 32);
-const LAST: i64 = 1 << 34;
 
 #[derive(Debug, PartialEq)]
 pub struct Entry {
@@ -23,7 +19,7 @@ pub struct Entry {
 #[derive(Debug, PartialEq)]
 pub enum Outcome {
     Answered(Vec<Entry>),
-    Refused(u16),
+    Refused(Refusal),
 }
 
 #[derive(Debug, PartialEq)]
@@ -67,11 +63,12 @@ impl Entry {
 }
 
 impl Record {
-    /// Reads a record. The size of the bytes must be the one that their head gives.
+    /// Reads a record that was split off its input by its length. If it breaks a rule of the format or has an entry that the solver
+    /// cannot have written, returns the position of the fault and the reason.
     pub fn read(bytes: &[u8]) -> Result<Record, (usize, String)> {
-        behind_head(bytes)?;
+        framed(bytes)?;
         let outcome = if u16_at(bytes, 4) == 3 {
-            Outcome::Refused(u16_at(bytes, 14))
+            Outcome::Refused(Refusal::read(bytes))
         } else {
             let entries = bytes[HEAD..].chunks(ENTRY).enumerate().map(|(i, part)| {
                 let place = |(at, words)| (HEAD + ENTRY * i + at, format!("entry {}: {words}", i + 1));

@@ -31,7 +31,7 @@ fn only_the_notes_that_apply_are_given() {
 fn the_records_of_a_conflict_count_as_transfers() {
     let one = "1 of 64 slots filled: 0 answered, 0 refused, 1 in conflict";
     assert_eq!(said(&[refusal(1, 11), answer(1, &[1.0])], &PLAIN), [one, NO_SURFACE]);
-    assert_eq!(said(&[refusal(1, 11), refusal(1, 12)], &PLAIN), [one]);
+    assert_eq!(said(&[refusal(1, 11), refusal(1, 13)], &PLAIN), [one]);
     let replaced = [answer(1, &[1.0]), refusal(1, 11)].concat();
     let mut higher = refusal(1, 11);
     higher[10] = 2;

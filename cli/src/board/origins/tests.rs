@@ -1,6 +1,6 @@
 use super::*;
 use crate::proved::{post, TAKEN};
-use crate::wire::form::{ENTRY, HEAD};
+use crate::wire::form::{ENTRY, HEAD, VOID_STATION};
 use crate::wire::slots::BOARD;
 
 /// Numbers that look random. The high bits of each step are used.
@@ -16,16 +16,17 @@ impl Random {
     fn record(&mut self, jobs: u64) -> Vec<u8> {
         let (job, revision) = (self.below(jobs) as u32, self.below(4) as u32);
         let n = self.below(3) as usize;
-        let number = if self.below(10) == 0 { 15 } else { 1 + self.below(2) as u16 };
+        let number = if self.below(10) == 0 { 15 } else { 11 + self.below(3) as u16 };
         let (kind, last) = if n == 0 { (3u16, number) } else { (2, n as u16) };
-        let mut bytes = (12 + (ENTRY * n) as u32).to_le_bytes().to_vec();
+        let after = if (kind, last) == (3, 12) { VOID_STATION } else { ENTRY * n };
+        let mut bytes = (12 + after as u32).to_le_bytes().to_vec();
         bytes.extend(kind.to_le_bytes());
         bytes.extend(job.to_le_bytes());
         bytes.extend(revision.to_le_bytes());
         bytes.extend(last.to_le_bytes());
-        bytes.resize(HEAD + ENTRY * n, 0);
-        let at = HEAD + 16 + 8 * self.below(6) as usize;
-        if n > 0 {
+        bytes.resize(HEAD + after, 0);
+        let at = if n == 0 { HEAD } else { HEAD + 16 + 8 * self.below(6) as usize };
+        if after > 0 {
             bytes[at] = self.below(2) as u8;
         }
         bytes

@@ -1,10 +1,27 @@
 use super::*;
 use crate::wire::slots::BOARD;
+use crate::wire::ROOM;
 use std::io::{self, Cursor, Read};
 
-/// Returns the record of a refusal of revision 1.
+/// Returns the record of a refusal of revision 1, with another number than 12.
 pub fn refusal(job: u8, number: u8) -> Vec<u8> {
     vec![12, 0, 0, 0, 3, 0, job, 0, 0, 0, 1, 0, 0, 0, number, 0]
+}
+
+/// Returns the record of a refusal 12 of revision 1.
+pub fn incomplete(job: u8, j: i32, reason: u16) -> Vec<u8> {
+    let head = [18, 0, 0, 0, 3, 0, job, 0, 0, 0, 1, 0, 0, 0, 12, 0];
+    [&head[..], &j.to_le_bytes(), &reason.to_le_bytes()].concat()
+}
+
+/// Returns a board whose slots hold these records. The records must be in the order of their jobs.
+pub fn holding(records: &[Vec<u8>]) -> Vec<u8> {
+    let mut board = vec![0; BOARD];
+    board
+        .chunks_mut(ROOM)
+        .zip(records)
+        .for_each(|(slot, record)| slot[..record.len()].copy_from_slice(record));
+    board
 }
 
 /// Returns an answer of revision 1 with transfers at x = 0 and these velocities v1 along x. Their v2 are (0, 3, 4).
@@ -55,6 +72,35 @@ fn each_refusal_has_its_place_and_its_reason() {
     }
 }
 
+/// Length 18 goes with number 12 and with nothing else.
+#[test]
+fn a_refusal_12_without_its_void_station_is_malformed() {
+    let mut board = vec![0; BOARD];
+    for (record, words) in [
+        (refusal(1, 12), "B1, malformed: length is 12, but refusal 12 has the length 18"),
+        (
+            [&incomplete(1, 0, 1)[..14], &[11, 0], &[0; 6]].concat(),
+            "B1, malformed: length is 18, but refusal 11 has the length 12",
+        ),
+    ] {
+        let number = post(&mut board, &record);
+        assert_eq!((number, why(MALFORMED, &record)), (MALFORMED, (0, words.to_string())));
+    }
+    assert!(board == [0; BOARD]);
+}
+
+/// The board judges neither the station nor the reason.
+#[test]
+fn a_refusal_12_is_posted_whatever_it_names() {
+    let records = [incomplete(1, -4095, 1), incomplete(2, i32::MAX, 0), incomplete(3, i32::MIN, u16::MAX)];
+    assert!(of_files(&[("a", records.concat())]).board == holding(&records));
+    let both = of_files(&[("a", incomplete(1, 5, 2)), ("b", incomplete(1, 5, 3))]);
+    assert_eq!(both.board[4], 4, "a conflict");
+    // A stored refusal 12 without its void station is not that of a board.
+    assert_eq!(post(&mut holding(&[refusal(1, 12)]), &[]), NO_BOARD);
+    assert_ne!(post(&mut holding(&records), &[]), NO_BOARD);
+}
+
 /// Gives some bytes, and then every read fails.
 struct Failing(Cursor<Vec<u8>>);
 
@@ -69,10 +115,10 @@ impl Read for Failing {
 
 #[test]
 fn a_failing_read_loses_no_other_record() {
-    let failing = || input(Failing(Cursor::new([refusal(1, 11), refusal(2, 12)].concat())));
+    let failing = || input(Failing(Cursor::new([refusal(1, 11), refusal(2, 13)].concat())));
     let good = |job| input(Cursor::new(refusal(job, 9)));
     let posting = posted(vec![0; BOARD], vec![("a", good(3)), ("b", failing()), ("c", good(4))]);
-    let all = [refusal(1, 11), refusal(2, 12), refusal(3, 9), refusal(4, 9)].concat();
+    let all = [refusal(1, 11), refusal(2, 13), refusal(3, 9), refusal(4, 9)].concat();
     assert!(posting.board == of_files(&[("all", all)]).board);
     let missing = posting.tally.missing();
     assert_eq!(missing.as_deref(), Some("b could not be read to its end"));

@@ -3,7 +3,7 @@ use crate::orbit::x_of;
 use crate::plot::curve::Place;
 use crate::plot::svg::escaped;
 use crate::refusal;
-use crate::wire::Entry;
+use crate::wire::{Entry, Refusal};
 
 fn question() -> Question {
     Question::read(&include_bytes!("../../../../samples/questions")[..82]).expect("a question")
@@ -45,9 +45,10 @@ fn is_well_formed(text: &str) -> bool {
 fn every_refusal_is_told() {
     for number in 2..=14 {
         let curve = curve(Vec::new());
-        let page = page(&question(), &Outcome::Refused(number), Some(&curve).filter(|_| number > 10), None);
+        let refusal = if number == 12 { Refusal::incomplete(-4045, 2) } else { Refusal::plain(number) };
+        let page = page(&question(), &Outcome::Refused(refusal), Some(&curve).filter(|_| number > 10), None);
         assert!(is_well_formed(&page));
-        let words = format!("refused {number}: {}", refusal::words(number));
+        let words = format!("refused {number}: {}", refusal::words(refusal));
         assert!(page.contains(&escaped(&words)), "in the description");
         let lines = page.replace("</text>", "").replace('\n', " ");
         for word in words.split(' ') {
@@ -73,7 +74,8 @@ fn every_bracket_is_there() {
 
 #[test]
 fn void_stations_are_marked_and_counted() {
-    let page = page(&question(), &Outcome::Refused(12), Some(&curve(Vec::new())), None);
+    let outcome = Outcome::Refused(Refusal::incomplete(-4045, 2));
+    let page = page(&question(), &outcome, Some(&curve(Vec::new())), None);
     assert_eq!(page.matches("class=\"void\"").count(), 1);
     assert!(page.contains("void stations: 10") && page.contains("8191 stations, 10 of them void"));
 }

@@ -4,7 +4,7 @@ use super::*;
 use crate::proved::record_of;
 use crate::refusal;
 use crate::terminal::Colour;
-use crate::wire::{Question, Record, Records, SLOT};
+use crate::wire::{Question, Record, Records, Refusal, SLOT};
 
 fn view(columns: Option<usize>) -> View {
     View { form: Form::Table, detail: false, explain: false, colour: Colour(false), columns, radius: None }
@@ -22,22 +22,41 @@ fn samples() -> Vec<(Record, Asked)> {
 
 #[test]
 fn every_refusal_is_one_line_and_explained_if_asked() {
-    for number in 1..=14 {
-        let record = Record { job: 5, revision: 1, outcome: Outcome::Refused(number) };
+    for number in (1..=14).filter(|number| *number != 12) {
+        let refused = Refusal::plain(number);
+        let record = Record { job: 5, revision: 1, outcome: Outcome::Refused(refused) };
         let item = Item::new(&record, &Asked::Unknown, None);
         let text = |view: &View| Table::new(Names::JobAndRevision, false, view).item(&item, view);
-        let short = format!("     5         1  refused {number}: {}\n", refusal::short(number));
+        let short = format!("     5         1  refused {number}: {}\n", refusal::short(refused));
         assert_eq!(text(&view(Some(200))), short);
         let explained = text(&View { explain: true, ..view(None) });
         let words: Vec<&str> = explained.split_whitespace().skip(2).collect();
-        let all = format!("refused {number}: {} {}", refusal::short(number), refusal::words(number));
+        let all = format!("refused {number}: {} {}", refusal::short(refused), refusal::words(refused));
         assert_eq!(words.join(" "), format!("{all} What to do: {}.", refusal::advice(number)));
     }
 }
 
 #[test]
+fn a_void_station_is_named_without_being_asked_for() {
+    for (j, reason) in [(-4095, 1), (0, 2), (16_384, 3), (7, 4), (i32::MIN, 0), (i32::MAX, u16::MAX)] {
+        let refused = Refusal::incomplete(j, reason);
+        let record = Record { job: 5, revision: 1, outcome: Outcome::Refused(refused) };
+        let item = Item::new(&record, &Asked::Unknown, None);
+        for explain in [false, true] {
+            let view = View { explain, ..view(Some(80)) };
+            let text = Table::new(Names::JobAndRevision, false, &view).item(&item, &view);
+            assert!(text.lines().all(|line| line.len() <= 80), "{text}");
+            let words: Vec<&str> = text.split_whitespace().collect();
+            let words = words.join(" ");
+            assert!(words.starts_with(&format!("5 1 refused 12: {}", refusal::short(refused))), "{words}");
+            assert_eq!(words.contains(&refusal::words(refused)), explain);
+        }
+    }
+}
+
+#[test]
 fn a_long_job_does_not_touch_its_refusal() {
-    let record = Record { job: u32::MAX, revision: u32::MAX, outcome: Outcome::Refused(8) };
+    let record = Record { job: u32::MAX, revision: u32::MAX, outcome: Outcome::Refused(Refusal::plain(8)) };
     let item = Item::new(&record, &Asked::Unknown, None);
     let text = Table::new(Names::JobAndRevision, false, &view(None)).item(&item, &view(None));
     assert!(text.starts_with("4294967295  4294967295  refused 8: "), "{text}");

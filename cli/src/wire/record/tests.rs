@@ -28,7 +28,7 @@ fn each_fault_has_its_place() {
     for (at, value, offset, words) in [
         (0, 75, 0, "length is 75, but n = 1 has the length 76"),
         (4, 1, 4, "kind is 1, not 2 or 3"),
-        (4, 3, 0, "length is 76, but a refusal has the length 12"),
+        (4, 3, 0, "length is 76, but refusal 1 has the length 12"),
         (14, 0, 14, "n is 0, not 1 to 8"),
         (14, 9, 14, "n is 9, not 1 to 8"),
         (23, 0x40, 16, "entry 1: lower end k = 4611686018427387909 is outside the stations"),
@@ -49,12 +49,59 @@ fn a_velocity_is_finite() {
     assert_eq!(first(&bytes), Err(Fault { offset: 40, number: 1, words }));
 }
 
+/// A refusal with this length, this number and these bytes after its head.
+fn refusal(length: u8, number: u8, after: &[u8]) -> Vec<u8> {
+    [&[length, 0, 0, 0, 3, 0, 7, 0, 0, 0, 2, 0, 0, 0, number, 0], after].concat()
+}
+
 #[test]
 fn a_refusal_has_a_number_of_the_table() {
-    for number in [0, 15] {
-        let bytes = [12, 0, 0, 0, 3, 0, 7, 0, 0, 0, 2, 0, 0, 0, number, 0];
+    for (length, number) in [(12, 0), (12, 15), (18, 0), (18, 15), (18, 255)] {
         let words = format!("number is {number}, not 1 to 14");
-        assert_eq!(first(&bytes), Err(Fault { offset: 14, number: 1, words }));
+        let found = first(&refusal(length, number, &[0; 6]));
+        assert_eq!(found, Err(Fault { offset: 14, number: 1, words }));
+    }
+}
+
+#[test]
+fn refusal_12_has_a_void_station() {
+    for j in [i32::MIN, -4096, -4095, -1, 0, 16_384, 16_385, i32::MAX] {
+        for reason in [0, 1, 4, 5, u16::MAX] {
+            let bytes = refusal(18, 12, &[&j.to_le_bytes()[..], &reason.to_le_bytes()].concat());
+            let outcome = Outcome::Refused(Refusal::incomplete(j, reason));
+            assert_eq!(first(&bytes), Ok(Some(Record { job: 7, revision: 2, outcome })));
+        }
+    }
+}
+
+/// Length 18 goes with number 12 and with nothing else.
+#[test]
+fn no_other_refusal_has_a_void_station() {
+    for number in (1..=14).filter(|number| *number != 12) {
+        let outcome = Outcome::Refused(Refusal::plain(number.into()));
+        let plain = refusal(12, number, &[]);
+        assert_eq!(first(&plain), Ok(Some(Record { job: 7, revision: 2, outcome })));
+        let words = format!("length is 18, but refusal {number} has the length 12");
+        assert_eq!(first(&refusal(18, number, &[0; 6])), Err(Fault { offset: 0, number: 1, words }));
+    }
+    for length in [0, 6, 12, 17, 19, 76] {
+        let words = format!("length is {length}, but refusal 12 has the length 18");
+        assert_eq!(first(&refusal(length, 12, &[0; 64])), Err(Fault { offset: 0, number: 1, words }));
+    }
+    let words = "cut short: 21 of 22 bytes".into();
+    assert_eq!(first(&refusal(18, 12, &[0; 5])), Err(Fault { offset: 21, number: 1, words }));
+}
+
+/// A record that was split off by its length is read or has a fault, whatever its bytes are.
+#[test]
+fn every_framed_record_is_judged() {
+    for (bytes, fault) in [
+        (refusal(12, 12, &[]), Some("length is 12, but refusal 12 has the length 18")),
+        (refusal(18, 11, &[0; 6]), Some("length is 18, but refusal 11 has the length 12")),
+        (refusal(18, 12, &[255; 6]), None),
+        (refusal(12, 11, &[]), None),
+    ] {
+        assert_eq!(Record::read(&bytes).err().map(|(_, words)| words).as_deref(), fault);
     }
 }
 
