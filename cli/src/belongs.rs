@@ -1,10 +1,12 @@
 //! Whether a record can be the solver's record of a question. The job and the revision do not tell: a question may have been changed
 //! since. The proved times show most changes: an entry's bracket has times on different sides of the time asked for, and with number 11
-//! all stations are on one side. The velocities show a change that keeps the times, such as positions that are exchanged or turned.
+//! all stations are on one side; the station that number 12 names is void. The velocities show a change that keeps the times, such as
+//! positions that are exchanged or turned.
 
 use crate::proved;
+use crate::reason::Reason;
 use crate::vectors::{cross, size};
-use crate::wire::{Entry, Outcome, Question, Refusal};
+use crate::wire::{Entry, Outcome, Question, Refusal, VoidStation};
 
 /// Returns why the outcome cannot be that of the question, or `None` if no reason was found. The question is well-formed.
 pub fn fault(question: &Question, outcome: &Outcome) -> Option<String> {
@@ -20,6 +22,11 @@ pub fn fault(question: &Question, outcome: &Outcome) -> Option<String> {
         )),
         (count, Outcome::Refused(Refusal { number: 11, .. })) => stations_differ(&slot, count)?
             .then(|| "the record says that nothing was found, but the search finds a transfer".into()),
+        (count, Outcome::Refused(Refusal { void: Some(void), .. })) => {
+            let first = proved::station(0);
+            let has = (first..=proved::station(count - 1)).contains(&void.k());
+            not_void(*void, has.then(|| proved::time_or_reason(&slot, void.k())))
+        }
         (_, Outcome::Refused(_)) => None,
         (_, Outcome::Answered(entries)) => {
             let wrong = |entry: &Entry| {
@@ -33,6 +40,19 @@ pub fn fault(question: &Question, outcome: &Outcome) -> Option<String> {
             Some(format!("the velocities of transfer {} of the record do not fit the positions", at + 1))
         }
     }
+}
+
+/// Returns why a record cannot name this void station, or `None` if it can. `found` is what the question has at that station, or
+/// `None` if it has no such station.
+fn not_void(void: VoidStation, found: Option<Result<f64, Reason>>) -> Option<String> {
+    let VoidStation { j, reason } = void;
+    let but = match found {
+        None => "the question has no such station".into(),
+        Some(Ok(_)) => "that station has a time".into(),
+        Some(Err(other)) if other != reason => format!("its reason is {}, not {}", other.0, reason.0),
+        Some(Err(_)) => return None,
+    };
+    Some(format!("the record says that the station j = {j} is void, but {but}"))
 }
 
 /// How far the angular momenta at both ends of a transfer may differ, as a part of distance times speed. They are equal but for
@@ -135,11 +155,38 @@ mod tests {
         let samples = samples();
         let (searched, refused) = (&samples[1].0, &samples[5].0);
         let of = |number| Outcome::Refused(Refusal::plain(number));
-        for number in [12, 13, 14] {
+        for number in [13, 14] {
             assert_eq!(fault(searched, &of(number)), None);
             assert!(fault(refused, &of(number)).is_some());
         }
+        assert!(fault(refused, &Outcome::Refused(Refusal::incomplete(0, 1))).is_some());
         assert_eq!(fault(searched, &of(7)), None);
         assert!(fault(searched, &of(11)).is_some());
+    }
+
+    /// No station of a sample is void. The first sample has whole revolutions, so its last station is at j = 4095.
+    #[test]
+    fn a_station_with_a_time_is_not_void() {
+        let samples = samples();
+        let said = |i: usize, j| {
+            fault(&samples[i].0, &Outcome::Refused(Refusal::incomplete(j, 1))).expect("a reason")
+        };
+        for (i, last) in [(0, 4_095), (1, 16_384)] {
+            for j in [-4_095, 0, last] {
+                assert!(said(i, j)
+                    .ends_with(&format!("the station j = {j} is void, but that station has a time")));
+            }
+            for j in [i32::MIN, -4_096, last + 1, i32::MAX] {
+                assert!(said(i, j).ends_with("but the question has no such station"), "{j}");
+            }
+        }
+    }
+
+    #[test]
+    fn a_void_station_has_its_reason() {
+        let void = VoidStation { j: 5, reason: Reason(2) };
+        assert_eq!(not_void(void, Some(Err(Reason(2)))), None);
+        let words = "the record says that the station j = 5 is void, but its reason is 3, not 2";
+        assert_eq!(not_void(void, Some(Err(Reason(3)))).as_deref(), Some(words));
     }
 }

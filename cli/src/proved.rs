@@ -3,6 +3,7 @@
 //! SAFETY of each call: a slice is passed as a pointer and its length. The slices live until the call returns and do not overlap.
 //! The function keeps none of them, and it is proved to end for every content.
 
+use crate::reason::Reason;
 use crate::wire::{u64_at, ROOM};
 
 extern "C" {
@@ -54,14 +55,21 @@ pub fn stations(question: &[u8]) -> Vec<i64> {
     (0..station_count(question)).map(station).collect()
 }
 
-/// Returns the bits of the time at the place `k` of a question, or all ones if there is none.
+/// Returns the bits of the time at the place `k` of a question. If the place is void, they are those of a NaN that stands for the
+/// reason, and if the question does not pass the entrance checks, they are all ones.
 pub fn time(question: &[u8], k: i64) -> u64 {
     unsafe { lambert_time(question.as_ptr(), question.len(), k) }
 }
 
-/// Returns the time with these bits, or `None` if they are all ones. No time has all ones as its bits.
+/// Returns the time with these bits, or `None` if they are those of a NaN. No time is a NaN.
 pub fn known(bits: u64) -> Option<f64> {
-    Some(bits).filter(|bits| *bits != u64::MAX).map(f64::from_bits)
+    Some(f64::from_bits(bits)).filter(|time| !time.is_nan())
+}
+
+/// Returns the time at the place `k` of a question that passes the entrance checks, or the reason why the place is void.
+pub fn time_or_reason(question: &[u8], k: i64) -> Result<f64, Reason> {
+    let bits = time(question, k);
+    known(bits).ok_or(Reason::of_bits(bits))
 }
 
 /// Posts a record to a board. Returns `TAKEN`, or the number of the refusal; a refusal does not change the board.

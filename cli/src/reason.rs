@@ -5,7 +5,15 @@
 #[derive(Clone, Copy, Debug, PartialEq, Eq, PartialOrd, Ord)]
 pub struct Reason(pub u16);
 
+/// The bits of the NaN that stands for a void place, less the number of the reason.
+const VOID: u64 = 0x7FF8_0000_0000_0000;
+
 impl Reason {
+    /// Returns the reason that the bits of a NaN stand for. Its number is 0 if they stand for none.
+    pub fn of_bits(bits: u64) -> Reason {
+        Reason(bits.checked_sub(VOID).and_then(|number| number.try_into().ok()).unwrap_or(0))
+    }
+
     pub fn words(self) -> &'static str {
         match self.0 {
             1 => "lambda, the revolutions or x is out of range",
@@ -20,6 +28,16 @@ impl Reason {
 #[cfg(test)]
 mod tests {
     use super::*;
+
+    #[test]
+    fn the_bits_of_a_nan_give_the_number() {
+        for number in [1, 2, 3, 4, 5, u16::MAX] {
+            assert_eq!(Reason::of_bits(VOID + u64::from(number)), Reason(number));
+        }
+        for bits in [u64::MAX, VOID, VOID + 0x1_0000, 0x7FF0_0000_0000_0001, 0xFFF8_0000_0000_0001, 0] {
+            assert_eq!(Reason::of_bits(bits), Reason(0), "{bits:x}");
+        }
+    }
 
     #[test]
     fn each_reason_has_its_words() {

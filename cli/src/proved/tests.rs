@@ -1,6 +1,8 @@
 use super::{
-    orbit_message, orbit_state, post, record_of, stations, time, wanted, LONGEST_ORBIT_MESSAGE, TAKEN,
+    known, orbit_message, orbit_state, post, record_of, stations, time, time_or_reason, wanted,
+    LONGEST_ORBIT_MESSAGE, TAKEN,
 };
+use crate::reason::Reason;
 use crate::wire::slots::BOARD;
 use crate::wire::SLOT;
 
@@ -38,9 +40,32 @@ fn gives_the_worked_times() {
     assert!((f64::from_bits(wanted(worked)) - 0.634).abs() < 1e-3);
     assert!(f64::from_bits(time(worked, 0)) > std::f64::consts::PI);
     for k in [i64::MIN, -1 << 32, 1 << 32, i64::MAX] {
-        assert_eq!(time(worked, k), u64::MAX, "k = {k}");
+        assert_eq!(known(time(worked, k)), None, "k = {k}");
     }
     assert_eq!((wanted(&worked[..81]), time(&[], 0)), (u64::MAX, u64::MAX));
+    assert_eq!(time_or_reason(worked, 0).ok(), known(time(worked, 0)));
+}
+
+/// Every place beyond the ends of the question's grid is void, by the first reason.
+#[test]
+fn a_void_place_has_its_reason() {
+    let samples = include_bytes!("../../../samples/questions");
+    for (slot, last) in [(0, 4_095 << 20), (1, 1i64 << 34)] {
+        let question = &samples[slot * SLOT..][..SLOT];
+        for k in [i64::MIN, -1 << 32, (-4_095 << 20) - 1, last + 1, i64::MAX] {
+            assert_eq!(time_or_reason(question, k), Err(Reason(1)), "k = {k}");
+            assert_eq!(time(question, k), 0x7FF8_0000_0000_0001);
+        }
+        assert!(time_or_reason(question, -4_095 << 20).is_ok() && time_or_reason(question, last).is_ok());
+    }
+}
+
+#[test]
+fn no_nan_is_a_time() {
+    for bits in [u64::MAX, 0x7FF8_0000_0000_0001, 0x7FF8_0000_0000_0000, 0xFFF0_0000_0000_0001] {
+        assert_eq!(known(bits), None);
+    }
+    assert_eq!([0, 1.5f64.to_bits(), f64::MAX.to_bits()].map(known), [Some(0.0), Some(1.5), Some(f64::MAX)]);
 }
 
 #[test]
