@@ -14,6 +14,7 @@ mod time_scale;
 mod told;
 mod trace;
 mod transfer;
+mod voids;
 
 use crate::expected;
 use crate::fields::radius;

@@ -51,7 +51,7 @@ fn level(time: f64) -> f64 {
 /// decades above the wanted time or the greatest time of a station, whichever is greater.
 fn levels(curve: &Curve) -> (f64, f64) {
     let wanted = level(curve.wanted);
-    let mut times: Vec<f64> = curve.stations.iter().filter_map(|(_, time)| *time).collect();
+    let mut times: Vec<f64> = curve.stations.iter().filter_map(|(_, time)| time.ok()).collect();
     times.retain(|time| *time > 0.0);
     times.sort_by(f64::total_cmp);
     let at = |i: usize| times.get(i).map_or(wanted, |time| level(*time));
@@ -67,7 +67,7 @@ mod tests {
     use super::*;
 
     fn curve(wanted: f64, times: &[f64]) -> Curve {
-        let stations = times.iter().enumerate().map(|(i, time)| (i as f64 / 1e3, Some(*time))).collect();
+        let stations = times.iter().enumerate().map(|(i, time)| (i as f64 / 1e3, Ok(*time))).collect();
         Curve { wanted, stations, chosen: Vec::new() }
     }
 

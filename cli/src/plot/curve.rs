@@ -2,10 +2,12 @@
 
 use crate::orbit::x_of;
 use crate::proved;
+use crate::reason::Reason;
 use crate::wire::Outcome;
+use std::collections::BTreeMap;
 
-/// A place: x, and the time if the place has one.
-pub type Place = (f64, Option<f64>);
+/// A place: x, and the time or, if the place is void, the reason.
+pub type Place = (f64, Result<f64, Reason>);
 
 pub struct Curve {
     pub wanted: f64,
@@ -17,7 +19,7 @@ pub struct Curve {
 impl Curve {
     /// Returns the curve of a question, or `None` if the question does not pass the entrance checks.
     pub fn of(question: &[u8], outcome: &Outcome) -> Option<Curve> {
-        let place = |k: i64| (x_of(k), proved::known(proved::time(question, k)));
+        let place = |k: i64| (x_of(k), proved::time_or_reason(question, k));
         let chosen = match outcome {
             Outcome::Refused(_) => Vec::new(),
             Outcome::Answered(entries) => entries.iter().map(|entry| place(entry.chosen())).collect(),
@@ -26,9 +28,12 @@ impl Curve {
         Some(Curve { wanted: proved::known(proved::wanted(question))?, stations, chosen })
     }
 
-    /// Returns the number of void stations.
-    pub fn void(&self) -> usize {
-        self.stations.iter().filter(|(_, time)| time.is_none()).count()
+    /// Returns the number of void stations for each reason.
+    pub fn voids(&self) -> BTreeMap<Reason, usize> {
+        let mut counts = BTreeMap::new();
+        let reasons = self.stations.iter().filter_map(|(_, time)| time.err());
+        reasons.for_each(|reason| *counts.entry(reason).or_insert(0) += 1);
+        counts
     }
 }
 
@@ -43,9 +48,9 @@ mod tests {
             let outcome = Record::of_question(slot).ok().expect("a record").outcome;
             let curve = Curve::of(slot, &outcome).expect("past the entrance");
             let below = |place: &Place| place.1.map(|time| time < curve.wanted);
-            let crosses = |pair: &&[Place]| below(&pair[0]).is_some() && below(&pair[0]) != below(&pair[1]);
+            let crosses = |pair: &&[Place]| below(&pair[0]).is_ok() && below(&pair[0]) != below(&pair[1]);
             let crossings: Vec<&[Place]> = curve.stations.windows(2).filter(crosses).collect();
-            assert_eq!((crossings.len(), curve.void()), (curve.chosen.len(), 0));
+            assert!(crossings.len() == curve.chosen.len() && curve.voids().is_empty());
             for (pair, (x, time)) in crossings.iter().zip(&curve.chosen) {
                 assert!(pair[0].0 <= *x && *x <= pair[1].0);
                 assert!((time.expect("a time") / curve.wanted - 1.0).abs() < 1e-6);

@@ -9,13 +9,13 @@ use super::svg::{circle, escaped, label, line, rect, text, within, DARK, GREY, R
 use super::ticks::{linear, logarithmic};
 use super::time_scale::TimeScale;
 use super::trace::{trace, Trace};
+use super::voids::bands;
 use std::f64::consts::{FRAC_PI_4, PI};
 
-/// The styles of the curve, the wanted time and void stations, in the graph and in the legend.
+/// The styles of the curve and the wanted time, in the graph and in the legend.
 pub const CURVE: &str =
     "stroke=\"#17407a\" stroke-width=\"2\" stroke-linecap=\"round\" stroke-linejoin=\"round\"";
 pub const WANTED: &str = "stroke=\"#b00020\" stroke-width=\"1.8\" stroke-dasharray=\"7 4\"";
-pub const VOID: &str = "fill=\"#efb04a\"";
 
 const GRID: &str = "stroke=\"#d5d5d5\"";
 const PARABOLA: &str = "stroke=\"#555555\" stroke-dasharray=\"2 3\"";
@@ -25,10 +25,7 @@ pub fn graph(curve: &Curve, axes: &Axes, seconds: f64, brackets: &[String]) -> S
     let frame = [LEFT, axes.top, RIGHT - LEFT, HEIGHT];
     let Trace { path, voids } = trace(&curve.stations, axes);
     let mut drawn = levels(axes) + &times(axes, &TimeScale::of(seconds, curve.wanted)) + &places(axes);
-    for (from, to) in voids {
-        // The mark is one unit wider than the stretch, so that a single void station can be seen.
-        drawn += &rect([from - 0.5, axes.top, to - from + 1.0, HEIGHT], &format!("class=\"void\" {VOID}"));
-    }
+    drawn += &voids.iter().map(|columns| bands(columns, axes)).collect::<String>();
     let y = axes.down(curve.wanted);
     drawn += &line([LEFT, y, RIGHT, y], &format!("class=\"wanted\" {WANTED}"));
     drawn += &within(frame, &format!("<path class=\"curve\" fill=\"none\" {CURVE} d=\"{path}\"/>\n"));
@@ -54,7 +51,7 @@ fn room(curve: &Curve, axes: &Axes) -> Room {
     let y = axes.down(curve.wanted);
     room.take_line((LEFT, y), (RIGHT, y));
     for pair in curve.stations.windows(2) {
-        if let [(x, Some(time)), (next, Some(then))] = pair {
+        if let [(x, Ok(time)), (next, Ok(then))] = pair {
             room.take_line((axes.across(*x), axes.down(*time)), (axes.across(*next), axes.down(*then)));
         }
     }

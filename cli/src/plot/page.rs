@@ -2,12 +2,13 @@
 
 use super::axes::Axes;
 use super::curve::Curve;
-use super::graph::{graph, CURVE, VOID, WANTED};
+use super::graph::{graph, CURVE, WANTED};
 use super::measure::NO_BREAK;
 use super::sheet::{Sheet, MARGIN};
 use super::svg::{circle, line, rect};
 use super::told;
 use super::transfer::Transfers;
+use super::voids;
 use crate::wire::{Outcome, Question};
 use crate::words::number;
 
@@ -43,16 +44,17 @@ pub fn page(question: &Question, outcome: &Outcome, curve: Option<&Curve>, radiu
 }
 
 fn legend(sheet: &mut Sheet, curve: &Curve) {
-    let (stations, void) = (curve.stations.len(), curve.void());
-    let none = if void == 0 { ", none of them void" } else { "" };
+    let (stations, counts) = (curve.stations.len(), curve.voids());
+    let none = if counts.is_empty() { ", none of them void" } else { "" };
     let row = |y: f64, style: &str| line([MARGIN, y, MARGIN + 26.0, y], style);
     sheet.item(|y| row(y, CURVE), &format!("time at {stations} stations{none}"));
     sheet.item(|y| row(y, WANTED), &format!("wanted time T* = {}", number(curve.wanted)));
     if !curve.chosen.is_empty() {
         sheet.item(|y| circle(MARGIN + 13.0, y), "chosen end of a bracket");
     }
-    if void > 0 {
-        sheet.item(|y| rect([MARGIN, y - 6.0, 26.0, 12.0], VOID), &format!("void stations: {void}"));
+    for (reason, count) in counts {
+        let (style, words) = (voids::style(reason), voids::words(reason, count));
+        sheet.item(|y| rect([MARGIN, y - 6.0, 26.0, 12.0], &style), &format!("void stations: {words}"));
     }
 }
 

@@ -2,6 +2,7 @@
 
 use super::curve::Curve;
 use super::measure::NO_BREAK;
+use super::voids;
 use crate::orbit::{end, kind, x_of};
 use crate::show::refused;
 use crate::wire::{Entry, Outcome, Question, Refusal};
@@ -49,9 +50,13 @@ fn whole(phrases: &[String]) -> String {
 pub fn description(question: &Question, outcome: &Outcome, curve: Option<&Curve>) -> String {
     let mut said = format!("Asked: {}. ", asked(question).join(", "));
     if let Some(curve) = curve {
-        let (stations, void, wanted) = (curve.stations.len(), curve.void(), number(curve.wanted));
+        let (stations, counts, wanted) = (curve.stations.len(), curve.voids(), number(curve.wanted));
+        let void: usize = counts.values().sum();
         said += &format!("The normalised time at {stations} stations, {void} of them void, over x, ");
         said += &format!("and the wanted time T* = {wanted}. ");
+        for (reason, count) in counts {
+            said += &format!("Void stations: {}. ", voids::words(reason, count));
+        }
     }
     said + &self::outcome(question, outcome).join("; ") + "."
 }

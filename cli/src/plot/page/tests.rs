@@ -2,6 +2,7 @@ use super::*;
 use crate::orbit::x_of;
 use crate::plot::curve::Place;
 use crate::plot::svg::escaped;
+use crate::reason::Reason;
 use crate::refusal;
 use crate::wire::{Entry, Refusal};
 
@@ -13,9 +14,13 @@ fn entry(low: i64) -> Entry {
     Entry { low, halvings: 18, upper_chosen: true, v1: [1.0; 3], v2: [2.0; 3] }
 }
 
-/// A falling curve with some void stations.
+/// A falling curve with some void stations: ten of reason 2 and, far from them, one of reason 4.
 fn curve(chosen: Vec<Place>) -> Curve {
-    let time = |i: i32| Some(1e6 / f64::from(i + 1)).filter(|_| !(50..60).contains(&i));
+    let time = |i: i32| match i {
+        50..60 => Err(Reason(2)),
+        5_000 => Err(Reason(4)),
+        _ => Ok(1e6 / f64::from(i + 1)),
+    };
     let stations = (0..8_191).map(|i| (f64::from(i - 4_095) / 4_096.0, time(i))).collect();
     Curve { wanted: 300.0, stations, chosen }
 }
@@ -63,7 +68,7 @@ fn every_refusal_is_told() {
 fn every_bracket_is_there() {
     for count in 1..=8 {
         let entries: Vec<Entry> = (0..count).map(|i| entry(i << 28)).collect();
-        let chosen = entries.iter().map(|entry| (x_of(entry.chosen()), Some(300.0))).collect();
+        let chosen = entries.iter().map(|entry| (x_of(entry.chosen()), Ok(300.0))).collect();
         let page = page(&question(), &Outcome::Answered(entries), Some(&curve(chosen)), None);
         assert!(is_well_formed(&page) && page.len() < 100_000, "{} {}", page.len(), is_well_formed(&page));
         assert_eq!(page.matches("class=\"bracket\"").count(), count as usize);
@@ -73,11 +78,37 @@ fn every_bracket_is_there() {
 }
 
 #[test]
-fn void_stations_are_marked_and_counted() {
+fn void_stations_are_marked_and_counted_by_their_reasons() {
     let outcome = Outcome::Refused(Refusal::incomplete(-4045, 2));
     let page = page(&question(), &outcome, Some(&curve(Vec::new())), None);
-    assert_eq!(page.matches("class=\"void\"").count(), 1);
-    assert!(page.contains("void stations: 10") && page.contains("8191 stations, 10 of them void"));
+    assert_eq!(page.matches("class=\"void\"").count(), 2);
+    for (reason, count) in [(2, 10), (4, 1)] {
+        let style = voids::style(Reason(reason));
+        assert_eq!(page.matches(&style).count(), 2, "in the graph and in the legend");
+        let words = voids::words(Reason(reason), count);
+        assert!(page.contains(&format!("Void stations: {words}. ")), "in the description");
+        let lines: Vec<String> = layout::texts(&page).into_iter().map(|(words, _)| words).collect();
+        assert!(lines.join(" ").contains(&format!("void stations: {words}")), "in the legend");
+    }
+    assert!(page.contains("8191 stations, 11 of them void") && !page.contains("none of them void"));
+    assert!(page.contains("Here the first void station is j = -4045, x = -0.987548828125, reason 2: "));
+    assert_eq!(layout::faults(&page), [""; 0]);
+}
+
+/// Every text fits its space, whatever station and reason a record names.
+#[test]
+fn strange_void_stations_are_told() {
+    for (j, reason) in [(i32::MIN, 0), (i32::MAX, u16::MAX), (16_385, 5)] {
+        let outcome = Outcome::Refused(Refusal::incomplete(j, reason));
+        let stations = vec![(0.0, Ok(1.0)), (0.25, Err(Reason(reason)))];
+        let page =
+            page(&question(), &outcome, Some(&Curve { wanted: 300.0, stations, chosen: Vec::new() }), None);
+        assert!(is_well_formed(&page) && layout::faults(&page).is_empty());
+        assert!(page.contains(&format!("Void stations: 1, reason {reason}: not a reason of the rules")));
+        assert!(
+            page.contains(&format!("j = {j}, x = ")) && page.contains("(not a station: j is -4095 to 16384)")
+        );
+    }
 }
 
 #[test]
