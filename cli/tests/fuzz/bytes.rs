@@ -3,7 +3,7 @@
 use crate::chance::Chance;
 
 /// Values at and next to the limits of the format's fields, and f64 values that are not finite, huge or tiny.
-const ODD: [u64; 40] = [
+const ODD: [u64; 44] = [
     0,
     1,
     2,
@@ -19,8 +19,10 @@ const ODD: [u64; 40] = [
     15,
     16,
     17,
+    18,
     20,
     21,
+    22,
     64,
     76,
     77,
@@ -34,6 +36,8 @@ const ODD: [u64; 40] = [
     525,
     65_535,
     65_536,
+    0xFFFF_F001,
+    0xFFFF_F000,
     0x7FFF_FFFF,
     0xFFFF_FFFF,
     0x7FFF_FFFF_FFFF_FFFF,
@@ -52,14 +56,17 @@ pub fn question_fields(bytes: &[u8]) -> Vec<usize> {
     (0..bytes.len() / 82).flat_map(|slot| fields.map(|field| 82 * slot + field)).collect()
 }
 
-/// Returns the positions of the fields in well-formed records.
+/// Returns the positions of the fields in well-formed records. After the head come the entries of an answer, or the station and the
+/// reason of refusal 12.
 pub fn record_fields(bytes: &[u8]) -> Vec<usize> {
     let (mut fields, mut start) = (Vec::new(), 0);
     while start < bytes.len() {
         fields.extend([0, 4, 6, 10, 14].map(|field| start + field));
         let end = start + 4 + usize::from(bytes[start]) + 256 * usize::from(bytes[start + 1]);
-        let entry = [0, 8, 12, 16, 24, 32, 40, 48, 56];
-        fields.extend((start + 16..end).step_by(64).flat_map(|at| entry.map(|field| at + field)));
+        let after: &[usize] =
+            if bytes[start + 4] == 3 { &[0, 4] } else { &[0, 8, 12, 16, 24, 32, 40, 48, 56] };
+        let parts = (start + 16..end).step_by(64);
+        fields.extend(parts.flat_map(|at| after.iter().map(move |field| at + field)));
         start = end;
     }
     fields
@@ -68,7 +75,9 @@ pub fn record_fields(bytes: &[u8]) -> Vec<usize> {
 /// Returns the positions of fields in a board: those of the first slots and of the last.
 pub fn board_fields(_: &[u8]) -> Vec<usize> {
     let slots = (0..8).chain([63]);
-    slots.flat_map(|slot| [0, 4, 6, 10, 14, 16, 24, 28, 32, 527].map(|field| 528 * slot + field)).collect()
+    slots
+        .flat_map(|slot| [0, 4, 6, 10, 14, 16, 20, 24, 28, 32, 527].map(|field| 528 * slot + field))
+        .collect()
 }
 
 /// Returns the bytes with one to three changes or, now and then, something else. `others` are files of another kind.

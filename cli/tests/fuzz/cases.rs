@@ -21,7 +21,7 @@ pub fn questions(chance: &mut Chance, samples: &Samples) -> Vec<u8> {
 }
 
 pub fn records(chance: &mut Chance, samples: &Samples) -> Vec<u8> {
-    let good = &samples.records;
+    let good = chance.pick(&[&samples.records, &samples.records, &samples.refusals]);
     let others = [&samples.questions[..], &samples.questions_list, &samples.board, &samples.message, good];
     bytes::damaged(chance, good, &record_fields(good), &others)
 }
@@ -149,7 +149,7 @@ pub fn board(chance: &mut Chance, samples: &Samples) -> Case {
 
 pub fn stored_board(chance: &mut Chance, samples: &Samples) -> Case {
     let mut case = board(chance, samples);
-    let good = &samples.board;
+    let good = chance.pick(&[&samples.board, &samples.board, &samples.void_board]);
     let others = [&samples.records[..], &samples.questions, &samples.questions_list];
     let stored = bytes::damaged(chance, good, &board_fields(good), &others);
     case.files.push(("board", if chance.one_in(4) { good.clone() } else { stored }));

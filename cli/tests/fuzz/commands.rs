@@ -70,8 +70,25 @@ pub fn solved(case: &Case, found: &Found, folder: &Folder) -> Result<(), String>
     rule(shown.status == Some(0), "show refuses the questions and the records of solve")
 }
 
-/// `check` takes exactly the records that `show` takes, in each form.
+/// Reports whether, among records split by their lengths, the refusals of length 18 are exactly those with number 12.
+fn lengths_fit(records: &[u8]) -> bool {
+    let mut rest = records;
+    while !rest.is_empty() {
+        let length = usize::from(rest[0]) + 256 * usize::from(rest[1]);
+        if rest[4] == 3 && length != if rest[14] == 12 { 18 } else { 12 } {
+            return false;
+        }
+        rest = &rest[4 + length..];
+    }
+    true
+}
+
+/// `check` takes exactly the records that `show` takes, in each form. It takes no refusal whose length does not fit its number.
 pub fn shown(_: &Case, found: &Found, folder: &Folder) -> Result<(), String> {
+    if found.status == Some(0) {
+        let records = folder.files().remove("in").unwrap_or_default();
+        rule(lengths_fit(&records), "check takes a refusal whose length does not fit its number")?;
+    }
     for form in [&["show", "in"][..], &["show", "--json", "in"], &["show", "--csv", "in"]] {
         let shown = run(folder, form)?;
         let statuses =

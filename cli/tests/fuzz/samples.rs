@@ -23,8 +23,29 @@ pub struct Samples {
     pub questions_list: Vec<u8>,
     pub messages_list: Vec<u8>,
     pub records: Vec<u8>,
+    /// Refusals with every number. Those with number 12 have stations and reasons of all kinds.
+    pub refusals: Vec<u8>,
     pub board: Vec<u8>,
+    /// A board with one refusal 12.
+    pub void_board: Vec<u8>,
     pub message: Vec<u8>,
+}
+
+fn refusal(job: u8, number: u8) -> Vec<u8> {
+    vec![12, 0, 0, 0, 3, 0, job, 0, 0, 0, 1, 0, 0, 0, number, 0]
+}
+
+/// Returns the record of a refusal 12.
+fn incomplete(job: u8, j: i32, reason: u16) -> Vec<u8> {
+    let head = [18, 0, 0, 0, 3, 0, job, 0, 0, 0, 1, 0, 0, 0, 12, 0];
+    [&head[..], &j.to_le_bytes(), &reason.to_le_bytes()].concat()
+}
+
+fn refusals() -> Vec<u8> {
+    let plain = (1..=14).filter(|number| *number != 12).flat_map(|number| refusal(number, number));
+    let voids = [(-4095, 1), (-1, 2), (0, 3), (16_384, 4), (16_385, 0), (i32::MIN, 5), (i32::MAX, u16::MAX)];
+    let voids = (101..).zip(voids).flat_map(|(job, (j, reason))| incomplete(job, j, reason));
+    plain.chain(voids).collect()
 }
 
 impl Samples {
@@ -39,8 +60,9 @@ impl Samples {
             found.out
         };
         let records = made(&["solve"], "questions");
-        let other = [12, 0, 0, 0, 3, 0, 102, 0, 0, 0, 1, 0, 0, 0, 11, 0];
-        let conflict = [&records[..], &other].concat();
+        let conflict = [&records[..], &refusal(102, 11)].concat();
+        let mut void_board = incomplete(9, -4095, 1);
+        void_board.resize(64 * 528, 0);
         folder.fill(&[
             ("questions", questions.clone()),
             ("records", records.clone()),
@@ -55,6 +77,8 @@ impl Samples {
             questions_list: include_bytes!("../../../samples/questions.csv").to_vec(),
             messages_list: include_bytes!("../../../samples/messages.csv").to_vec(),
             records,
+            refusals: refusals(),
+            void_board,
         }
     }
 }
