@@ -39,10 +39,14 @@ mod tests {
         }
     }
 
+    /// The words are those of the table in docs/USING.md.
     #[test]
     fn each_reason_has_its_words() {
-        let all: std::collections::BTreeSet<&str> = (1..=4).map(|number| Reason(number).words()).collect();
-        assert_eq!(all.len(), 4);
+        let using = include_str!("../../docs/USING.md");
+        let rows = using.lines().skip_while(|line| !line.starts_with("| reason |"));
+        let rows: Vec<&str> = rows.skip(2).take_while(|line| line.starts_with('|')).collect();
+        let expected = (1..=4).map(|number| format!("| {number} | {} |", Reason(number).words()));
+        assert_eq!(rows, expected.collect::<Vec<_>>());
         for number in [0, 5, u16::MAX] {
             assert!(Reason(number).words().starts_with("not a reason of the rules"));
         }
