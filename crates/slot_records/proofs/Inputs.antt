@@ -13,7 +13,7 @@ use lib.ListN.{length, take, drop, length-drop, length-append}
 use lib.Seq.{take-append-seam, drop-append-seam, take-all, length-take-le}
 use Rattle.question_record.specs.Record.{recordOf}
 use Rattle.records.specs.Layout.{questionSize}
-use Rattle.records.specs.Records.{refusalBytes}
+use Rattle.records.specs.Records.{refusalWith, refusalBytes}
 use Rattle.question_record.proofs.OtherSizes.{other-size}
 use Rattle.slot_records.specs.Inputs.{slotsIn, slotsOf, recordsFor, recordsOf, slotRecord, slotReply, BySteps}
 use Rattle.slot_records.proofs.SlotSteps.{some-came, none-came}
@@ -74,7 +74,7 @@ one-slot s h k =
     slot-first s h ∙ ap (λ (l : List ℕ). recordOf (take questionSize s) ++ recordsOf l) none
     ∙ ap (λ (l : List ℕ). recordOf (take questionSize s) ++ l) empty-input ∙ append-nil (recordOf (take questionSize s)) ∙ ap recordOf all
 
-pub short-last : (s : List ℕ) → 0 < length s → length s < questionSize → recordsOf s ≡ refusalBytes 0 0 1
+pub short-last : (s : List ℕ) → 0 < length s → length s < questionSize → recordsOf s ≡ refusalBytes (refusalWith 0 0 1)
 short-last s h k = one-slot s h (omega arith) ∙ other-size s (λ e. omega (arith, e, k))
 
 -- ---- The output slot by slot
