@@ -1,6 +1,6 @@
--- The record of every question has one of the three forms of `RecordForm` (`record-form`). The proof splits on the
+-- The record of every question has one of the four forms of `RecordForm` (`record-form`). The proof splits on the
 -- verdict of the entrance checks and, for an accepted question, on the first of the numbers 11 to 14 that applies, if
--- any.
+-- any. Number 12 applies only if some station is void, and then the report about the stations names one.
 use mathlib.Core.Path.{_≡_, refl, sym, ap, _∙_, subst}
 use mathlib.Core.Bool.{Bool, true, false, cond, _||_, true≢false}
 use mathlib.Core.List.{List, [], _∷_, map, List·Memᴰ, List·Memᴰ·not-nil as in-none, List·Memᴰ·cases-cons as in-first}
@@ -11,9 +11,9 @@ use native.Mathlib.Omega.{arith}
 use borrow.Author.Tests.{eqb-true, eqb-false, ne-eqb}
 use lib.Dec.{eqb, ltb}
 use lib.ListN.{length, length-map}
-use Rattle.question_record.specs.Record.{refusalRecord, recordAfter, recordOf}
-use Rattle.records.specs.Layout.{mostEntries, answerRoom, firstNumber, lastNumber, jobOf}
-use Rattle.records.specs.Records.{questionOf, answerBytes}
+use Rattle.question_record.specs.Record.{refusalFor, outcomeRecord, recordAfter, recordOf}
+use Rattle.records.specs.Layout.{mostEntries, answerRoom, firstNumber, lastNumber, voidNumber, jobOf}
+use Rattle.records.specs.Records.{questionOf, refusalBytes}
 use Rattle.records.specs.declared.Entry.{Entry}
 use Rattle.geometry.specs.Triangles.{shapeOf}
 use Rattle.entrance.specs.Conditions.{malformed}
@@ -24,13 +24,18 @@ use Rattle.entrance.specs.declared.Judged.{Judged}
 use Rattle.entrance.specs.declared.Judged.the-variants.{Refused, Accepted}
 use Rattle.entrance.proofs.Table.{refused-exactly, accepted-exactly, accepted-problem, only-ten}
 use Rattle.bisection.specs.declared.Bracket.{Bracket}
+use Rattle.sweep.specs.declared.walks.Walk.{Walk}
 use Rattle.sweep.proofs.Counts.{length-is}
+use Rattle.sweep.proofs.Reports.{Agrees, none-void, some-void}
 use Rattle.entries.specs.Entries.{entryFor}
 use Rattle.entries.proofs.Ends.{entry-names}
-use Rattle.solver.specs.Crossed.{sidesOf, gridOf, lastPlace, bracketsOf, entriesOf}
+use Rattle.solver.specs.Crossed.{sidesOf, gridOf, lastPlace, seenOf, bracketsOf, entriesOf}
 use Rattle.solver.specs.Table.{crossingCount, anyVoid, allFinite, lateChecks}
-use Rattle.solver.proofs.Numbering.{rows, rows-are, few}
-use Rattle.record_laws.specs.RecordForm.{RecordForm, not-question, refusal, answer}
+use Rattle.solver.specs.Solve.{lateRefusal, outcomeFor}
+use Rattle.solver.specs.declared.Outcome.the-variants.{Answered}
+use Rattle.solver.proofs.Numbering.{rows, rows-are, report-agrees, few}
+use Rattle.record_laws.specs.RecordForm.{RecordForm, not-question, refusal, void-refusal, answer}
+use Rattle.record_laws.proofs.VoidStations.{void-station}
 
 -- ---- the numbers 11 to 14
 
@@ -42,6 +47,14 @@ late-number true true ninth finite h = (omega arith, omega arith)
 late-number false void true finite h = (omega arith, omega arith)
 late-number false void false false h = (omega arith, omega arith)
 late-number false void false true h = absurd (h refl)
+
+-- Number 12 applies only if some station is void.
+twelve-void : (none void ninth finite : Bool) → rows none void ninth finite ≡ voidNumber → void ≡ true
+twelve-void none true ninth finite e = refl
+twelve-void true false ninth finite e = absurd (omega (arith, e))
+twelve-void false false true finite e = absurd (omega (arith, e))
+twelve-void false false false false e = absurd (omega (arith, e))
+twelve-void false false false true e = absurd (omega (arith, e))
 
 -- If none of them applies, there is a crossing.
 some-crossing : (none void ninth finite : Bool) → rows none void ninth finite ≡ 0 → none ≡ false
@@ -67,6 +80,12 @@ module _ (p : Problem) where
   late-between h =
       rw (rows-are p)
       (late-number (eqb (crossingCount p) 0) (anyVoid p) (ltb mostEntries (crossingCount p)) (allFinite p) (λ z. h (rows-are p ∙ z)))
+
+  not-twelve : anyVoid p ≡ false → firstOf (lateChecks p) ≡ voidNumber → ⊥
+  not-twelve timed e =
+      let row = sym (rows-are p) ∙ e in
+      let void = twelve-void (eqb (crossingCount p) 0) (anyVoid p) (ltb mostEntries (crossingCount p)) (allFinite p) row in
+      true≢false (sym void ∙ timed)
 
   -- The chosen end of each entry is 0 or 1.
   each-names : (rs : List Bracket) (e : Entry) → List·Memᴰ e (map (entryFor p) rs) → e .chosen ≤ 1
@@ -94,9 +113,10 @@ module _ (s : List ℕ) where
 
   -- ---- the record
 
-  refusal-form : (n : ℕ) → firstNumber < n → n ≤ lastNumber → 0 < jobOf s → RecordForm s (refusalRecord s n)
-  unfolding refusalRecord
-  refusal-form n low high job = rw (ne-eqb n 1 (λ e. omega (arith, e, low))) (refusal n low high job)
+  refusal-form : (n : ℕ) → firstNumber < n → n ≤ lastNumber → (n ≡ voidNumber → ⊥) → 0 < jobOf s →
+      RecordForm s (refusalBytes (refusalFor s n))
+  unfolding refusalFor
+  refusal-form n low high other job = rw (ne-eqb n 1 (λ e. omega (arith, e, low))) (refusal n low high other job)
 
   -- The question's own problem (`own`), and the number of the first entrance check that applies (`first-check`).
   abbrev own : Problem
@@ -113,27 +133,43 @@ module _ (s : List ℕ) where
       by true t f = absurd (let z : _≡_ {A = ℕ} 0 1 = cc f in omega (arith, z))
       by false t f = let same : first-check ≡ n = cc f in lt-of-not-le (λ h. eqb-false first-check 0 t (omega (arith, same, h)))
 
-  by-number : (n : ℕ) → judgeOf s answerRoom ≡ Refused n → (one : Bool) → eqb n 1 ≡ one → RecordForm s (refusalRecord s n)
-  unfolding refusalRecord
+  by-number : (n : ℕ) → judgeOf s answerRoom ≡ Refused n → (one : Bool) → eqb n 1 ≡ one → RecordForm s (refusalBytes (refusalFor s n))
+  unfolding refusalFor
   by-number n e true one = rw (eqb-true n 1 one) not-question
   by-number n e false one =
       let first = refused-exactly s answerRoom n (positive n e) .only e in
       let other : n ≡ 1 → ⊥ = eqb-false n 1 one in
       let late : 1 < n = lt-of-not-le (λ h. other (omega (arith, h, positive n e))) in
-      refusal-form n late (omega (arith, only-ten s answerRoom n (first .own) .1)) (past-one (first .none-earlier 1 late))
+      let early : n ≤ 10 = only-ten s answerRoom n (first .own) .1 in
+      refusal-form n late (omega (arith, early)) (λ z. omega (arith, z, early)) (past-one (first .none-earlier 1 late))
 
-  by-row : ((n : ℕ) → conditionOf s answerRoom n ≡ false) → (none : Bool) → eqb (firstOf (lateChecks own)) 0 ≡ none →
-      RecordForm s (cond none (answerBytes (own .job) (own .revision) (entriesOf own)) (refusalRecord s (firstOf (lateChecks own))))
+  -- The number of the first of the rows 11 to 14 that applies, or 0.
+  abbrev late-row : ℕ
+  late-row = firstOf (lateChecks own)
+
+  late-form : (late-row ≡ 0 → ⊥) → 0 < jobOf s → {seen : Walk} {void : Bool} → Agrees seen void → seenOf own ≡ seen → anyVoid own ≡ void →
+      (twelve : Bool) → eqb late-row voidNumber ≡ twelve → RecordForm s (outcomeRecord s own (lateRefusal late-row seen))
   unfolding problemOf questionOf
-  by-row past true t =
-      let none = eqb-true (firstOf (lateChecks own)) 0 t in
-      answer (entriesOf own) (at-least-one own none) (at-most-eight own none) (all-name own) (past-one (past 1))
-  by-row past false t =
-      let number = late-between own (eqb-false (firstOf (lateChecks own)) 0 t) in
-      refusal-form (firstOf (lateChecks own)) (number .0) (number .1) (past-one (past 1))
+  late-form some job none-void e timed true t = absurd (not-twelve own timed (eqb-true late-row voidNumber t))
+  late-form some job none-void e timed false t =
+      let number = late-between own some in
+      refusal-form late-row (number .0) (number .1) (eqb-false late-row voidNumber t) job
+  late-form some job (some-void station) e void true t = rw t (void-refusal station (void-station own station e) job)
+  late-form some job (some-void station) e void false t =
+      let number = late-between own some in
+      rw t (refusal-form late-row (number .0) (number .1) (eqb-false late-row voidNumber t) job)
+
+  by-row : 0 < jobOf s → (none : Bool) → eqb late-row 0 ≡ none →
+      RecordForm s (outcomeRecord s own (cond none (Answered (length (entriesOf own))) (lateRefusal late-row (seenOf own))))
+  unfolding problemOf questionOf
+  by-row job true t =
+      let none = eqb-true late-row 0 t in
+      answer (entriesOf own) (at-least-one own none) (at-most-eight own none) (all-name own) job
+  by-row job false t = late-form (eqb-false late-row 0 t) job (report-agrees own) refl refl (eqb late-row voidNumber) refl
 
   accepted-form : judgeOf s answerRoom ≡ Accepted own → RecordForm s (recordAfter s (Accepted own))
-  accepted-form e = by-row (accepted-exactly s answerRoom .only e) (eqb (firstOf (lateChecks own)) 0) refl
+  unfolding outcomeFor
+  accepted-form e = by-row (past-one (accepted-exactly s answerRoom .only e 1)) (eqb late-row 0) refl
 
   by-verdict : (j : Judged) → judgeOf s answerRoom ≡ j → RecordForm s (recordAfter s j)
   by-verdict (Refused n) e = by-number n e (eqb n 1) refl

@@ -1,5 +1,5 @@
 -- The job and the revision that the record of a question names, for a question that consists of bytes (`job-named`).
--- The proof splits on the three forms of a record. In each form the head gives back the job and revision written into
+-- The proof splits on the four forms of a record. In each form the head gives back the job and revision written into
 -- it.
 use mathlib.Core.Path.{_≡_, refl, ap, _∙_}
 use mathlib.Core.Logic.{_⊎_, inl, inr}
@@ -7,25 +7,26 @@ use mathlib.Core.List.{List}
 use Prim.Native.Nat.{ℕ, _^_, _≤_, _<_}
 use native.Mathlib.Omega.{arith}
 use lib.ListN.{length}
-use Rattle.question_record.specs.Record.{recordOf}
+use Rattle.question_record.specs.Record.{voidRefusalFor, recordOf}
 use Rattle.little_endian.specs.Bytes.{AreBytes}
 use Rattle.little_endian.proofs.Numbers.{number-lt}
 use Rattle.records.specs.Layout.{JOB, REVISION, mostEntries, firstNumber, jobOf, revisionOf}
-use Rattle.records.specs.Records.{headOf, refusalHeadOf, refusalBytes, answerHeadOf, answerBytes}
+use Rattle.records.specs.Records.{headOf, refusalHeadOf, refusalWith, refusalBytes, answerHeadOf, answerBytes}
 use Rattle.records.specs.declared.Head.{Head}
+use Rattle.records.specs.declared.Refusal.{Refusal}
 use Rattle.records.specs.declared.Entry.{Entry}
-use Rattle.records.proofs.RoundTrip.{head-back}
 use Rattle.records.proofs.Answers.{answer-head-back}
-use Rattle.records.proofs.Reading.{refusal-held, refusal-head-read, answer-held}
+use Rattle.records.proofs.Reading.{refusal-held, refusal-head-back, answer-held}
 use Rattle.entrance.specs.Table.{Exactly}
-use Rattle.record_laws.specs.RecordForm.{RecordForm, not-question, refusal, answer, notQuestion, JobNamed}
+use Rattle.record_laws.specs.RecordForm.{RecordForm, not-question, refusal, void-refusal, answer, notQuestion, JobNamed}
 use Rattle.record_laws.proofs.Forms.{record-form}
 
 zero-job : jobOf notQuestion ≡ 0
 unfolding headOf refusalHeadOf
 zero-job =
-    let held = refusal-held 0 0 (omega arith) (omega arith) firstNumber (omega arith) in
-    ap (λ (x : Head). x .job) (refusal-head-read 0 0 firstNumber held)
+    let one = refusalWith 0 0 firstNumber in
+    let held = refusal-held one (omega arith) (omega arith) (omega arith) in
+    ap (λ (x : Head). x .job) (refusal-head-back one held)
 
 module _ (s : List ℕ) (bytes : AreBytes s) where
   -- The job and the revision of the question are numbers of four bytes, so they are below 2^32.
@@ -53,12 +54,11 @@ module _ (s : List ℕ) (bytes : AreBytes s) where
   own-by l h e f g above =
       record { jobIs = ap (λ (x : Head). x .job) e ∙ f; revisionIs = ap (λ (x : Head). x .revision) e ∙ g; above = above }
 
-  refusal-own : (n : ℕ) → n < 2 ^ 16 → 0 < job → Own (refusalBytes job revision n)
+  refusal-own : (r : Refusal) → r .job ≡ job → r .revision ≡ revision → r .number < 2 ^ 16 → 0 < job → Own (refusalBytes r)
   unfolding refusalHeadOf
-  refusal-own n small above =
-      let held = refusal-held job revision small-job small-revision n small in
-      let back = refusal-head-read job revision n held in
-      own-by (refusalBytes job revision n) (refusalHeadOf job revision n) back refl refl above
+  refusal-own r e f small above =
+      let held = refusal-held r (rw e small-job) (rw f small-revision) small in
+      own-by (refusalBytes r) (refusalHeadOf r) (refusal-head-back r held) e f above
 
   answer-own : (es : List Entry) → length es ≤ mostEntries → 0 < job → Own (answerBytes job revision es)
   unfolding answerHeadOf
@@ -69,8 +69,11 @@ module _ (s : List ℕ) (bytes : AreBytes s) where
 
   -- A record is the refusal with number 1, or it names the question's own job and revision.
   either : {l : List ℕ} → RecordForm s l → (l ≡ notQuestion) ⊎ Own l
+  unfolding voidRefusalFor
   either not-question = inl refl
-  either (refusal n low high above) = inr (refusal-own n (omega (arith, high)) above)
+  either (refusal n low high other above) =
+      inr (refusal-own (refusalWith job revision n) refl refl (omega (arith, high)) above)
+  either (void-refusal station grid above) = inr (refusal-own (voidRefusalFor s station) refl refl (omega arith) above)
   either (answer es low high ends above) = inr (answer-own es high above)
 
   -- The two statements of `JobNamed` follow in each of these cases.

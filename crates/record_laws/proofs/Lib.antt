@@ -1,3 +1,4 @@
+pub mod VoidStations
 pub mod Forms
 pub mod Outcome
 pub mod Jobs

@@ -1,5 +1,5 @@
 -- The record of every question is a well-formed outcome (`record-outcome`), so posting it is never refused with B1
--- (`never-malformed`). The proof splits on the three forms of a record.
+-- (`never-malformed`). The proof splits on the four forms of a record.
 use mathlib.Core.Path.{_≡_}
 use mathlib.Core.Bool.{Bool, true, false, cond, not}
 use mathlib.Core.List.{List}
@@ -7,19 +7,22 @@ use Prim.Native.Nat.{ℕ}
 use native.Mathlib.Omega.{arith}
 use lib.Dec.{eqb, ltb}
 use lib.ListN.{length}
-use Rattle.question_record.specs.Record.{recordOf}
+use Rattle.question_record.specs.Record.{voidRefusalFor, recordOf}
 use Rattle.records.specs.Layout.{jobOf, revisionOf}
+use Rattle.records.specs.Records.{refusalWith}
 use Rattle.outcomes.specs.Outcomes.{isOutcome}
 use Rattle.outcomes.proofs.Written.{refusal-outcome, answer-outcome}
 use Rattle.board.specs.Board.{SLOTS, isBoard, heldOn, boardOf, placed, boardRefusal, placedOn, postOf}
 use Rattle.board.specs.declared.Posted.the-variants.{Taken, Refused}
-use Rattle.record_laws.specs.RecordForm.{RecordForm, not-question, refusal, answer}
+use Rattle.record_laws.specs.RecordForm.{RecordForm, not-question, refusal, void-refusal, answer}
 use Rattle.record_laws.proofs.Forms.{record-form}
 
 form-outcome : (s : List ℕ) {l : List ℕ} → RecordForm s l → isOutcome l ≡ true
-form-outcome s not-question = refusal-outcome 0 0 1 (omega arith) (omega arith)
-form-outcome s (refusal n low high above) =
-    refusal-outcome (jobOf s) (revisionOf s) n (omega (arith, low)) (omega (arith, high))
+unfolding voidRefusalFor
+form-outcome s not-question = refusal-outcome (refusalWith 0 0 1) (omega arith) (omega arith)
+form-outcome s (refusal n low high other above) =
+    refusal-outcome (refusalWith (jobOf s) (revisionOf s) n) (omega (arith, low)) (omega (arith, high))
+form-outcome s (void-refusal station grid above) = refusal-outcome (voidRefusalFor s station) (omega arith) (omega arith)
 form-outcome s (answer es low high ends above) = answer-outcome (jobOf s) (revisionOf s) es low high ends
 
 pub record-outcome : (s : List ℕ) → isOutcome (recordOf s) ≡ true
