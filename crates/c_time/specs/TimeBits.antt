@@ -9,7 +9,7 @@ use Rattle.flight_time.specs.Time.{timeOf, placeBits}
 unfoldable pub withLambda : ℕ → Triangle
 withLambda b = record { lambda = bits b; semiperimeter = 1F; chord = 1F ⊖ bits b ⊗ bits b; rho = 0F; sigma = 1F }
 
--- The bits of the time at the place k with the given number of whole revolutions, for the L with the bits b, or all ones
--- if the place is void.
+-- The bits of the time at the place k with the given number of whole revolutions, for the L with the bits b. If the place is
+-- void, the result is 0x7FF8_0000_0000_0000 plus the number of the reason.
 unfoldable pub timeBitsOf : ℕ → ℤ → ℕ → ℕ
 timeBitsOf b k revolutions = placeBits (timeOf (withLambda b) k revolutions)

@@ -1,5 +1,5 @@
 -- `lambert_sweep_number` meets its contract. This follows from the contracts of the functions that it calls. The sum
--- does not overflow, because a sweep lists at most eight crossings.
+-- does not overflow, because a sweep lists at most eight crossings, and `walk_number` leaves room for them.
 use Prim.Native.Nat.{ℕ, _≤_, _+_}
 use mathlib.Core.Path.{_≡_, sym, ap, subst, _∙_}
 use native.Mathlib.Omega.{arith}
@@ -9,20 +9,13 @@ use Rattle.stations.specs.Grid.{Grid}
 use Rattle.sweep.specs.Crossings.{reported, sweepOf, sweepFor}
 use Rattle.sweep.specs.declared.Crossings.{Crossings}
 use Rattle.stations.specs.declared.side.Side.{Side}
-use Rattle.sweep.specs.declared.Walk.{Walk}
-use Rattle.sweep.specs.declared.Walk.the-variants.{AllTimed, SomeVoid, NinthFound}
-use Rattle.c_time.specs.SweepNumber.{walkNumber, foundNumber, searchFor, sweepNumberOf}
+use Rattle.c_time.specs.SweepNumber.{foundNumber, searchFor, sweepNumberOf}
 use Rattle.c_time.proofs.lambert_sweep_number.Statement.{statement}
 use Rattle.c_time.proofs.lambert_sweep_number.Tie as tie
 
 count-small : (σ : ℤ → Side) (g : Grid) (last : ℕ) → sweepOf σ g last .count ≤ 8
 unfolding sweepOf reported
 count-small σ g last = omega arith
-
-walk-small : (w : Walk) → walkNumber w ≤ 32
-walk-small AllTimed = omega arith
-walk-small SomeVoid = omega arith
-walk-small NinthFound = omega arith
 
 -- The contract of `find_crossings`, restated for the bits that the caller passes in.
 found-is :
@@ -46,13 +39,14 @@ walk-number-requires c κs = search needs
 add-result : tie.Need-add-result
 add-result c =
     let found = c .before .find-crossings .result in
-    let walk : c .walk-number .result ≤ 32 = subst (λ (n : ℕ). n ≤ 32) (sym (c .walk-number .ensures)) (walk-small (found .walk)) in
     let count : found .count ≤ 8 = subst (λ (r : Crossings). r .count ≤ 8) (sym (found-is (c .before))) (count-small _ _ _) in
-    omega arith
+    omega (arith, c .walk-number .ensures .1)
 
 returns : tie.Need-returns
 unfolding sweepNumberOf foundNumber
-returns c = ap (λ (n : ℕ). n + c .before .find-crossings .result .count) (c .walk-number .ensures) ∙ ap foundNumber (found-is (c .before))
+returns c =
+    let found = c .before .find-crossings .result in
+    ap (λ (n : ℕ). n + found .count) (c .walk-number .ensures .0) ∙ ap foundNumber (found-is (c .before))
 
 pub lambert-sweep-number-spec : {M : Type 1} → statement M
 lambert-sweep-number-spec =
