@@ -11,14 +11,14 @@ use Rattle.entries.specs.Entries.{placeOf}
 use Rattle.solver.specs.Crossed.{lastStation}
 use Rattle.records.specs.Layout.{answerRoom}
 
--- The value if there is no time: all bits are ones, as for a void place. This is our own choice.
-abbrev pub noTime : ℕ
-noTime = 0xFFFF_FFFF_FFFF_FFFF
+-- The value in place of a time for a refused question: all bits are ones. This is our own choice. A void place of an accepted question
+-- has another value, which `placeBits` defines.
+abbrev pub refusedBits : ℕ
+refusedBits = 0xFFFF_FFFF_FFFF_FFFF
 
--- The bits of the wanted time, given the verdict of the entrance checks. A refused question has
--- none.
+-- The bits of the wanted time, given the verdict of the entrance checks. A refused question has none.
 abbrev pub wantedAfter : Judged → ℕ
-wantedAfter (Refused n) = noTime
+wantedAfter (Refused n) = refusedBits
 wantedAfter (Accepted p) = bitsOf (p .wanted)
 
 -- How many stations a question has, given the verdict of the entrance checks. A refused question
@@ -27,10 +27,10 @@ abbrev pub stationsAfter : Judged → ℕ
 stationsAfter (Refused n) = 0
 stationsAfter (Accepted p) = lastStation p + 1
 
--- The bits of the time at a place, given the verdict of the entrance checks. A refused question has
--- no time anywhere.
+-- The bits of the time at a place, or those of its reason if the place is void, given the verdict of the entrance checks. A refused
+-- question has no time anywhere.
 abbrev pub timeAfter : Judged → ℤ → ℕ
-timeAfter (Refused n) k = noTime
+timeAfter (Refused n) k = refusedBits
 timeAfter (Accepted p) k = placeBits (placeOf p k)
 
 -- The bits of the wanted time of a question, judged with room for the longest answer.

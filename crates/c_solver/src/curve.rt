@@ -1,22 +1,22 @@
 // The curve of a question, for hosts that draw it: the wanted time T*, the stations, and the time T at any place. T* and T are in the
-// triangle's unit of time, not in seconds. A time is returned as its 64 bits; if there is no time, all bits are ones. A question that
-// does not pass the entrance checks has no time and no station.
+// triangle's unit of time, not in seconds. A time is returned as its 64 bits. A question that does not pass the entrance checks has no
+// time and no station.
 ghost use mathlib.Core.Path.{_≡_};
 ghost use Rattle.stations.specs.Stations.{stationOf};
 ghost use Rattle.c_solver.specs.Curve.{wantedBits, stationCount, timeBits};
 use entrance::Judged;
 use records::ANSWER_ROOM;
 
-// The value returned if there is no time.
-const NO_TIME: u64 = 0xFFFF_FFFF_FFFF_FFFF;
+// The value returned as a time for a question that does not pass the entrance checks: all bits are ones.
+const REFUSED_BITS: u64 = 0xFFFF_FFFF_FFFF_FFFF;
 
-// Returns the bits of the wanted time.
+// Returns the bits of the wanted time, or all ones if the question does not pass the entrance checks.
 #[no_mangle]
 pub extern "C" fn lambert_wanted(question: &[u8]) -> u64
     ensures { λ r. ⌜ r ≡ wantedBits (now (question .entry)) ⌝ }
 {
     match entrance::judge(question, ANSWER_ROOM) {
-        Judged::Refused(_) => NO_TIME,
+        Judged::Refused(_) => REFUSED_BITS,
         Judged::Accepted(problem) => float64::to_bits(problem.wanted),
     }
 }
@@ -40,13 +40,14 @@ pub extern "C" fn lambert_station(i: u16) -> i64
     stations::station(i)
 }
 
-// Returns the bits of the time at the place k.
+// Returns the bits of the time at the place k. If the place is void, the result is 0x7FF8_0000_0000_0000 plus the number of the reason. If
+// the question does not pass the entrance checks, all bits are ones.
 #[no_mangle]
 pub extern "C" fn lambert_time(question: &[u8], k: i64) -> u64
     ensures { λ r. ⌜ r ≡ timeBits (now (question .entry)) k ⌝ }
 {
     match entrance::judge(question, ANSWER_ROOM) {
-        Judged::Refused(_) => NO_TIME,
+        Judged::Refused(_) => REFUSED_BITS,
         Judged::Accepted(problem) => flight_time::place_bits(entries::place_at(problem, k)),
     }
 }

@@ -7,10 +7,12 @@ ghost use Rattle.solver.specs.Solve.{outcomeNumber, solveOf};
 mod curve;
 
 use question_record::write_record;
+use records::VOID_NUMBER;
 use solver::Outcome;
 use solver::solve;
 
-// Calls `solve`. Returns 0 for an answer, or the number of the refusal.
+// Calls `solve`. Returns 0 for an answer, or the number of the refusal. For number 12, the record that `lambert_record` writes also names
+// the first void station and the reason.
 #[no_mangle]
 pub extern "C" fn lambert_solve(question: &[u8], answer: &mut [u8]) -> u16
     ensures outcome { λ r. ⌜ r ≡ outcomeNumber (solveOf (now (question .entry)) (now (answer .entry)) .outcome) ⌝ }
@@ -18,6 +20,7 @@ pub extern "C" fn lambert_solve(question: &[u8], answer: &mut [u8]) -> u16
 {
     match solve(question, answer) {
         Outcome::Refused(number) => number,
+        Outcome::RefusedVoid(_) => VOID_NUMBER,
         Outcome::Answered(_) => 0,
     }
 }

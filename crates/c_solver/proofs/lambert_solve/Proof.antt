@@ -14,6 +14,9 @@ enum-known-number c = search needs
 enum-told : tie.Need-enum-told
 enum-told c = search needs
 
+enum-told-2 : tie.Need-enum-told-2
+enum-told-2 c = search needs
+
 same-length : tie.Need-same-length
 same-length c = search needs
 
@@ -31,6 +34,14 @@ returns-2 c =
     let solved = c .before .before .before .before in
     (sym (ap outcomeNumber (sym (solved .solve .ensures .0) ∙ c .enum-told .given .1)), solved .solve .ensures .1)
 
+same-length-3 : tie.Need-same-length-3
+same-length-3 c = search needs
+
+returns-3 : tie.Need-returns-3
+returns-3 c =
+    let solved = c .before .before .before .before in
+    (sym (ap outcomeNumber (sym (solved .solve .ensures .0) ∙ c .enum-told2 .given .1)), solved .solve .ensures .1)
+
 pub lambert-solve-spec : {M : Type 1} → statement M
 lambert-solve-spec =
     tie.close
@@ -38,7 +49,10 @@ lambert-solve-spec =
     solve-requires
     enum-known-number
     enum-told
+    enum-told-2
     same-length
     returns
     same-length-2
-    returns-2)
+    returns-2
+    same-length-3
+    returns-3)
