@@ -1,13 +1,16 @@
 // Reads frames of 24 bytes, each with a search: the bits of lambda, the bits of the wanted time and the whole revolutions. Writes a line
-// for each: the count of the crossings, how the walk ended, and the ends and halvings of each bracket. The expected output is that of the
-// independent program for the same frames.
+// for each: the count of the crossings, how the walk ended, and the ends and halvings of each bracket. How the walk ended is `timed`,
+// `ninth`, or `void` with the j of the first void station, as the eight hexadecimal digits of its two's complement, and the number of the
+// reason. The expected output is that of the independent program for the same frames.
 ghost use mathlib.Core.Path.{_≡_};
 ghost use Rattle.little_endian.specs.Bytes.{numberAt};
+use hypergeometric::reason_number;
 use libc::STDIN_FILENO;
 use libc::STDOUT_FILENO;
 use stations::Search;
 use sweep::Bracket;
 use sweep::Crossings;
+use sweep::VoidStation;
 use sweep::Walk;
 
 fn wanted_bits(frame: &[u8]) -> u64
@@ -25,13 +28,25 @@ fn crossings_of(frame: &[u8]) -> Crossings {
     sweep::find_crossings(search)
 }
 
+fn print_void(station: VoidStation) {
+    let reason = station.reason;
+    io::write_all(STDOUT_FILENO, b" void ");
+    io::print_hex(
+        STDOUT_FILENO,
+        little_endian::signed32_bits(station.j) as u64,
+        8,
+    );
+    io::write_all(STDOUT_FILENO, b" ");
+    io::print_decimal(STDOUT_FILENO, reason_number(reason) as u64);
+}
+
 fn print_walk(walk: Walk) {
     match walk {
         Walk::AllTimed => {
             io::write_all(STDOUT_FILENO, b" timed");
         }
-        Walk::SomeVoid => {
-            io::write_all(STDOUT_FILENO, b" void");
+        Walk::SomeVoid(station) => {
+            print_void(station);
         }
         Walk::NinthFound => {
             io::write_all(STDOUT_FILENO, b" ninth");

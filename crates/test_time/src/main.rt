@@ -1,8 +1,9 @@
 // Reads frames of 18 bytes, each with a place: the bits of lambda, k and the whole revolutions. Writes a line for each: the bits of its
-// time, or `void`. The expected output is that of the independent program for the same frames.
+// time, or `void` and the number of the reason. The expected output is that of the independent program for the same frames.
 ghost use mathlib.Core.Path.{_≡_};
 ghost use Rattle.little_endian.specs.Bytes.{numberAt};
 use flight_time::Place;
+use hypergeometric::reason_number;
 use libc::STDIN_FILENO;
 use libc::STDOUT_FILENO;
 
@@ -33,8 +34,9 @@ fn answer_one() -> bool {
         Place::Timed(time) => {
             io::print_hex(STDOUT_FILENO, float64::to_bits(time), 16);
         }
-        Place::Void => {
-            io::write_all(STDOUT_FILENO, b"void");
+        Place::Void(reason) => {
+            io::write_all(STDOUT_FILENO, b"void ");
+            io::print_decimal(STDOUT_FILENO, reason_number(reason) as u64);
         }
     }
     io::write_all(STDOUT_FILENO, b"\n")
