@@ -39,4 +39,14 @@ unfolding placeBits
 returns-2 c = simp (c .before .before .place2 .given .1, sym (c .reason-number .ensures))
 
 pub place-bits-spec : {M : Type 1} → statement M
-place-bits-spec = tie.close (tie.spec enum-known-place to-bits-requires enum-known-place-2 reason-number-requires cast-result add-result returns returns-2)
+place-bits-spec =
+    tie.close
+    (tie.spec
+    enum-known-place
+    to-bits-requires
+    enum-known-place-2
+    reason-number-requires
+    cast-result
+    add-result
+    returns
+    returns-2)
