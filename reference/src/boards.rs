@@ -10,8 +10,8 @@ mod stream;
 
 use crate::board::SLOT;
 use crate::random::{pick, Random};
-use meetings::{crowd, few, orders};
-use messages::{answer, message, refusal};
+use meetings::{crowd, few, orders, with_faults};
+use messages::{answer, message, refusal, without_station};
 use steps::{List, Step, LONGEST};
 
 pub use steps::lines as told;
@@ -31,22 +31,30 @@ fn framed(list: &[Step]) -> Vec<u8> {
     list.iter().flat_map(Step::frame).collect()
 }
 
+/// Returns the fixed lists. In those that post random messages, refusals with number 12 lack their void station, so the
+/// board refuses them.
 fn lists() -> Vec<List> {
     let mut r = Random::new(20);
     let mut all = vec![vec![Step::End]];
     for i in 0..44 {
         let faults = if i % 2 == 0 { None } else { Some(5) };
-        all.extend(posted(&few(faults, &mut r), &mut r));
+        let short = without_stations(few(&mut r));
+        all.extend(posted(&with_faults(short, faults, &mut r), &mut r));
     }
     for jobs in [60, 63, 64, 64, 65, 65, 66, 68, 69, 70, 70] {
         let faults = if jobs % 2 == 0 { Some(12) } else { None };
-        all.extend(posted(&crowd(jobs, faults, &mut r), &mut r));
+        let short = without_stations(crowd(jobs, &mut r));
+        all.extend(posted(&with_faults(short, faults, &mut r), &mut r));
     }
     all.extend(faulty(&mut r));
     all.extend((0..8).map(|_| damage::sizes(&mut r)));
     all.extend((0..60).map(|_| damage::list(20, &mut r)));
     all.extend([(1, SLOT), (3, 40), (4, 100)].map(|(jobs, width)| damage::every_byte(jobs, width, &mut r)));
     all
+}
+
+fn without_stations(messages: Vec<Vec<u8>>) -> Vec<Vec<u8>> {
+    messages.into_iter().map(without_station).collect()
 }
 
 /// Returns one list for each order of the messages.
@@ -87,12 +95,15 @@ fn fresh(r: &mut Random) -> Vec<List> {
     let faults = pick(&[None, Some(3), Some(12)], r);
     match r.below(12) {
         0 => {
-            let jobs = 60 + r.below(11) as usize;
-            posted(&crowd(jobs, faults, r), r)
+            let messages = crowd(60 + r.below(11) as usize, r);
+            posted(&with_faults(messages, faults, r), r)
         }
         1 => vec![damage::sizes(r)],
         2 | 3 => vec![damage::list(20, r)],
-        _ => posted(&few(faults, r), r),
+        _ => {
+            let messages = few(r);
+            posted(&with_faults(messages, faults, r), r)
+        }
     }
 }
 

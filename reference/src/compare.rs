@@ -12,7 +12,7 @@ pub fn tally(answers: &[u8]) -> String {
     for bytes in &records {
         let kind = match Record::read(bytes).map(|r| r.outcome) {
             Some(Ok(entries)) => (0, entries.len() as u16),
-            Some(Err(number)) => (1, number),
+            Some(Err(refusal)) => (1, refusal.number()),
             None => (2, 0),
         };
         *kinds.entry(kind).or_default() += 1;
@@ -71,10 +71,10 @@ mod tests {
         let told = |a: &[u8], b: &[u8]| difference(&slots, [("one", a), ("other", b)]);
         assert_eq!(told(&good, &good), None);
         let mut bad = good.clone();
-        bad[16 + 14] = 12;
+        bad[16 + 14] = 13;
         let changed = told(&bad, &good).unwrap();
         assert!(changed.starts_with("slot 1 differs\nasked: 4e000000"), "{changed}");
-        assert!(changed.contains("one: 0c000000030007000000020000000c00\n"), "{changed}");
+        assert!(changed.contains("one: 0c000000030007000000020000000d00\n"), "{changed}");
         let short = told(&good, &good[..16]).unwrap();
         assert!(short.starts_with("slot 1") && short.ends_with("other: nothing\n"), "{short}");
     }

@@ -21,14 +21,16 @@ const USAGE: &str =
                        bytes with zeros up to 120
   entrance verdicts    a line for each case: the number of its refusal, or 0 and 22 hexadecimal words
   time places          a frame for each place: lambda's bits u64, k i64, M u16, little-endian
-  time times           a line for each place: the bits of its time as hexadecimal digits, or void
+  time times           a line for each place: the bits of its time as hexadecimal digits, or void and the
+                       number of the reason
   time precision       the largest relative errors of the times over a grid of places
   velocity flights     a frame for each case: the bits of 17 floats u64, k i64, little-endian
   velocity velocities  a line for each case: the bits of v1 x y z and v2 x y z as hexadecimal digits
   sweep cases          a frame for each case: the bits of lambda and of the wanted time u64, M as u64,
                        little-endian
-  sweep crossings      a line for each case: the number of brackets; timed, void or ninth; then the
-                       lower and upper end of each as hexadecimal digits and its halvings
+  sweep crossings      a line for each case: the number of brackets; timed, void or ninth; after void the
+                       first void station's j as hexadecimal digits and the number of its reason; then
+                       the lower and upper end of each bracket as hexadecimal digits and its halvings
   solve                an answer or a refusal for each slot of 82 bytes on standard input
   solver questions     the slots of the list, 82 bytes each, and a short one at the end
   solver answers       the records of these slots

@@ -4,7 +4,8 @@
 use crate::record::{Record, ENTRY, HEAD};
 use crate::wire::part;
 
-/// An answer has 1 to 8 entries, and a refusal has a number from 1 to 14.
+/// An answer has 1 to 8 entries, and a refusal has a number from 1 to 14. With number 12 it has a void station, whose
+/// j and reason may have any values.
 pub const MOST_ENTRIES: usize = 8;
 pub const LAST_NUMBER: u16 = 14;
 
@@ -23,16 +24,18 @@ pub struct Message {
 impl Message {
     /// Reads a record's bytes. Returns None if they are malformed (02, A1).
     pub fn read(bytes: &[u8]) -> Option<Message> {
-        let record = Record::read(bytes)?;
-        let in_force = match &record.outcome {
-            Ok(entries) => (1..=MOST_ENTRIES).contains(&entries.len()),
-            Err(number) => (1..=LAST_NUMBER).contains(number),
+        let Record { job, revision, outcome } = Record::read(bytes)?;
+        let in_force = match outcome {
+            Ok(entries) => (1..=MOST_ENTRIES).contains(&entries.len()) && ends_are_in_force(&bytes[HEAD..]),
+            Err(refusal) => (1..=LAST_NUMBER).contains(&refusal.number()),
         };
-        let chosen = |entry: &[u8]| u32::from_le_bytes(part(entry, CHOSEN));
-        let ends = bytes[HEAD..].chunks(ENTRY).all(|entry| chosen(entry) <= 1);
-        let Record { job, revision, .. } = record;
-        (in_force && ends).then(|| Message { job, revision, bytes: bytes.to_vec() })
+        in_force.then(|| Message { job, revision, bytes: bytes.to_vec() })
     }
+}
+
+/// Reports whether the chosen end of each entry is 0 or 1.
+fn ends_are_in_force(entries: &[u8]) -> bool {
+    entries.chunks(ENTRY).all(|entry| u32::from_le_bytes(part(entry, CHOSEN)) <= 1)
 }
 
 #[cfg(test)]

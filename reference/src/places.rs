@@ -7,7 +7,7 @@ mod near;
 mod stations;
 
 use crate::random::Random;
-use crate::time::time_at;
+use crate::time::time;
 
 pub const FRAME: usize = 18;
 
@@ -33,11 +33,11 @@ impl Place {
         frame
     }
 
-    /// Returns the bits of the place's time as sixteen hexadecimal digits, or `void`.
+    /// Returns the bits of the place's time as sixteen hexadecimal digits, or `void` and the number of the reason.
     pub fn line(&self) -> String {
-        match time_at(f64::from_bits(self.lambda), self.k, self.m) {
-            Some(t) => format!("{:016x}", t.to_bits()),
-            None => "void".into(),
+        match time(f64::from_bits(self.lambda), self.k, self.m) {
+            Ok(t) => format!("{:016x}", t.to_bits()),
+            Err(reason) => format!("void {}", reason.number()),
         }
     }
 }

@@ -2,24 +2,26 @@
 //! the length first and then the kind.
 
 use crate::entrance::ROOM;
-use crate::solve::{solve, Entry};
-use crate::wire::{part, Question, QUESTION_SIZE};
+use crate::solve::{solve, Entry, Refusal, VOID_NUMBER};
+use crate::wire::{part, put, Question, LENGTH, QUESTION_SIZE};
 
 pub const ANSWER_KIND: u16 = 2;
 pub const REFUSED_KIND: u16 = 3;
 
-/// The size of the part before the first entry, which is also the size of a refusal; the size of an entry;
-/// and the size of the length field, which the length doesn't count.
+/// The size of the part before the first entry, which is also the size of a refusal with a number other than 12;
+/// the size of an entry; the size of the void station at the end of a refusal with number 12; and the size of the
+/// length field, which the length doesn't count.
 pub const HEAD: usize = 16;
 pub const ENTRY: usize = 64;
+pub const STATION: usize = 6;
 pub const LENGTH_SIZE: usize = 4;
 
-/// The fields of a record. The outcome is the entries of an answer or the number of a refusal.
+/// The fields of a record. The outcome is the entries of an answer or a refusal.
 #[derive(Clone, Debug, PartialEq)]
 pub struct Record {
     pub job: u32,
     pub revision: u32,
-    pub outcome: Result<Vec<Entry>, u16>,
+    pub outcome: Result<Vec<Entry>, Refusal>,
 }
 
 impl Record {
@@ -27,41 +29,65 @@ impl Record {
     pub fn reply(slot: &[u8]) -> Record {
         let outcome = solve(slot, ROOM);
         let (job, revision) = match (Question::read(slot), &outcome) {
-            (None, _) | (_, Err(1)) => (0, 0),
+            (None, _) | (_, Err(Refusal::Number(1))) => (0, 0),
             (Some(q), _) => (q.job, q.revision),
         };
         Record { job, revision, outcome }
     }
 
     pub fn write(&self) -> Vec<u8> {
-        let (kind, last, entries) = match &self.outcome {
-            Ok(entries) => (ANSWER_KIND, entries.len() as u16, &entries[..]),
-            Err(number) => (REFUSED_KIND, *number, &[][..]),
+        let (kind, last, rest) = match &self.outcome {
+            Ok(entries) => {
+                (ANSWER_KIND, entries.len() as u16, entries.iter().flat_map(write_entry).collect())
+            }
+            Err(refusal) => (REFUSED_KIND, refusal.number(), write_station(refusal)),
         };
-        let length = (HEAD - LENGTH_SIZE + ENTRY * entries.len()) as u32;
-        let mut bytes = length.to_le_bytes().to_vec();
+        let mut bytes = vec![0; LENGTH_SIZE];
         bytes.extend(kind.to_le_bytes());
         bytes.extend(self.job.to_le_bytes());
         bytes.extend(self.revision.to_le_bytes());
         bytes.extend(last.to_le_bytes());
-        entries.iter().for_each(|e| bytes.extend(write_entry(e)));
+        bytes.extend(rest);
+        let length = (bytes.len() - LENGTH_SIZE) as u32;
+        put(&mut bytes, LENGTH, &length.to_le_bytes());
         bytes
     }
 
     /// Reads the fields of `bytes`. Returns None if they aren't a record.
     pub fn read(bytes: &[u8]) -> Option<Record> {
         let (head, rest) = bytes.split_at_checked(HEAD)?;
-        let length = u32::from_le_bytes(part(head, 0));
+        let length = u32::from_le_bytes(part(head, LENGTH));
         let (kind, last) = (u16::from_le_bytes(part(head, 4)), u16::from_le_bytes(part(head, 14)));
         let outcome = match kind {
             ANSWER_KIND if rest.len() == ENTRY * usize::from(last) => {
                 Ok(rest.chunks_exact(ENTRY).map(read_entry).collect())
             }
-            REFUSED_KIND if rest.is_empty() => Err(last),
+            REFUSED_KIND => Err(read_refusal(last, rest)?),
             _ => return None,
         };
         let (job, revision) = (u32::from_le_bytes(part(head, 6)), u32::from_le_bytes(part(head, 10)));
         (length as usize == bytes.len() - LENGTH_SIZE).then_some(Record { job, revision, outcome })
+    }
+}
+
+/// Returns the j and the reason at the end of a refusal with number 12. Other refusals have nothing there.
+fn write_station(refusal: &Refusal) -> Vec<u8> {
+    match refusal {
+        Refusal::Number(_) => vec![],
+        Refusal::Void { j, reason } => [&j.to_le_bytes()[..], &reason.to_le_bytes()].concat(),
+    }
+}
+
+/// Reads a refusal, given its number and the bytes after it. Returns None if they aren't as many as the number demands.
+fn read_refusal(number: u16, rest: &[u8]) -> Option<Refusal> {
+    match (number, rest.len()) {
+        (VOID_NUMBER, STATION) => {
+            let (j, reason) = (i32::from_le_bytes(part(rest, 0)), u16::from_le_bytes(part(rest, 4)));
+            Some(Refusal::Void { j, reason })
+        }
+        (VOID_NUMBER, _) => None,
+        (_, 0) => Some(Refusal::Number(number)),
+        _ => None,
     }
 }
 

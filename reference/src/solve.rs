@@ -1,7 +1,7 @@
 //! Answers a question: the entrance checks, the crossings, and the velocities at the chosen end of each crossing's bracket.
 
 use crate::entrance::{judge, Problem};
-use crate::sweep::{crossings, Bracket, Crossings, Walk};
+use crate::sweep::{crossings, Bracket, Crossings, VoidStation, Walk};
 use crate::time::time_at;
 use crate::velocity::Flight;
 use crate::wire::Vector;
@@ -15,20 +15,48 @@ pub struct Entry {
     pub velocities: [Vector; 2],
 }
 
-/// Returns the entries that answer a question's bytes, for an answer buffer of `room` bytes, or the number of the refusal.
-pub fn solve(bytes: &[u8], room: usize) -> Result<Vec<Entry>, u16> {
-    let problem = judge(bytes, room)?;
+/// The number that is given if there is no crossing and a station is void.
+pub const VOID_NUMBER: u16 = 12;
+
+/// Why a question isn't answered.
+#[derive(Clone, Copy, Debug, PartialEq, Eq)]
+pub enum Refusal {
+    /// Any number except 12.
+    Number(u16),
+    /// Number 12, with the first void station's j and the number of its reason.
+    Void { j: i32, reason: u16 },
+}
+
+impl Refusal {
+    pub fn number(self) -> u16 {
+        match self {
+            Refusal::Number(number) => number,
+            Refusal::Void { .. } => VOID_NUMBER,
+        }
+    }
+}
+
+impl From<VoidStation> for Refusal {
+    fn from(station: VoidStation) -> Refusal {
+        Refusal::Void { j: station.j, reason: station.reason.number() }
+    }
+}
+
+/// Returns the entries that answer a question's bytes, for an answer buffer of `room` bytes, or the refusal.
+pub fn solve(bytes: &[u8], room: usize) -> Result<Vec<Entry>, Refusal> {
+    let problem = judge(bytes, room).map_err(Refusal::Number)?;
     let found = crossings(problem.triangle.lambda, problem.revolutions, problem.wanted_time);
     check_crossings(&found)?;
-    check_velocities(found.brackets.iter().map(|b| entry(&problem, b)).collect())
+    let entries = found.brackets.iter().map(|b| entry(&problem, b)).collect();
+    check_velocities(entries).map_err(Refusal::Number)
 }
 
 /// Checks for numbers 11 to 13.
-fn check_crossings(found: &Crossings) -> Result<(), u16> {
+fn check_crossings(found: &Crossings) -> Result<(), Refusal> {
     match (found.walk, found.brackets.is_empty()) {
-        (Walk::Timed, true) => Err(11),
-        (Walk::Void, true) => Err(12),
-        (Walk::Ninth, _) => Err(13),
+        (Walk::Timed, true) => Err(Refusal::Number(11)),
+        (Walk::Void(station), true) => Err(station.into()),
+        (Walk::Ninth, _) => Err(Refusal::Number(13)),
         _ => Ok(()),
     }
 }

@@ -1,7 +1,7 @@
 //! The sweep over the stations (01, Stations, sides, crossings): sides, crossings, and the bisection of
 //! each crossing's pair.
 
-use crate::time::{time_at, HIGHEST, HIGHEST_TURNING, LOWEST, SPACING};
+use crate::time::{time, Void, HIGHEST, HIGHEST_TURNING, LOWEST, SPACING};
 
 /// The largest number of crossings that are listed.
 pub const PLACES: usize = 8;
@@ -14,12 +14,19 @@ pub struct Bracket {
     pub halvings: u32,
 }
 
-/// What a sweep finds about the stations: all have times, at least one is void, or there is a ninth
+/// A void station: its j, where k = j·2^20, and why it is void.
+#[derive(Clone, Copy, Debug, PartialEq, Eq)]
+pub struct VoidStation {
+    pub j: i32,
+    pub reason: Void,
+}
+
+/// What a sweep finds about the stations: all have times, the first void one in rising x, or a ninth
 /// crossing. If there is a ninth crossing, void stations don't matter.
 #[derive(Clone, Copy, Debug, PartialEq, Eq)]
 pub enum Walk {
     Timed,
-    Void,
+    Void(VoidStation),
     Ninth,
 }
 
@@ -31,13 +38,14 @@ pub struct Crossings {
 }
 
 impl Crossings {
-    /// Returns the number of brackets and the walk as a word, then for each bracket both ends as sixteen
-    /// hexadecimal digits in two's complement, and its halvings.
+    /// Returns the number of brackets and the walk as a word. After `void` come the station's j as eight hexadecimal
+    /// digits in two's complement and the number of its reason. Then follow, for each bracket, both ends as sixteen
+    /// such digits, and its halvings.
     pub fn line(&self) -> String {
         let walk = match self.walk {
-            Walk::Timed => "timed",
-            Walk::Void => "void",
-            Walk::Ninth => "ninth",
+            Walk::Timed => "timed".into(),
+            Walk::Void(VoidStation { j, reason }) => format!("void {j:08x} {}", reason.number()),
+            Walk::Ninth => "ninth".into(),
         };
         let bracket = |b: &Bracket| format!(" {:016x} {:016x} {}", b.lower, b.upper, b.halvings);
         let list: String = self.brackets.iter().map(bracket).collect();
@@ -53,33 +61,42 @@ pub fn stations(m: u16) -> impl Iterator<Item = i64> {
 
 /// Returns the crossings of a wanted time, for any lambda, M and wanted time.
 pub fn crossings(lambda: f64, m: u16, wanted: f64) -> Crossings {
-    let times: Vec<Option<f64>> = stations(m).map(|k| time_at(lambda, k, m)).collect();
-    crossings_of(&times, wanted, |k| time_at(lambda, k, m))
+    let time = |k: i64| time(lambda, k, m);
+    let times: Vec<Result<f64, Void>> = stations(m).map(time).collect();
+    crossings_of(&times, wanted, time)
 }
 
-/// Returns the crossings, given the times of the stations (None is void) and a function for the time at any place.
-pub fn crossings_of(times: &[Option<f64>], wanted: f64, time: impl Fn(i64) -> Option<f64>) -> Crossings {
+/// Returns the crossings, given the times of the stations and a function for the time at any place.
+pub fn crossings_of(
+    times: &[Result<f64, Void>],
+    wanted: f64,
+    time: impl Fn(i64) -> Result<f64, Void>,
+) -> Crossings {
     let found: Vec<usize> = changes(times, wanted).take(PLACES + 1).collect();
-    let walk = if found.len() > PLACES {
-        Walk::Ninth
-    } else if times.contains(&None) {
-        Walk::Void
-    } else {
-        Walk::Timed
+    let walk = match first_void(times) {
+        _ if found.len() > PLACES => Walk::Ninth,
+        Some(station) => Walk::Void(station),
+        None => Walk::Timed,
     };
-    let side = |k: i64| time(k).map(|t| below(t, wanted));
+    let side = |k: i64| time(k).ok().map(|t| below(t, wanted));
     let bracket = |&i: &usize| {
         let lower = LOWEST + i as i64 * SPACING;
-        let rising = times[i].is_some_and(|t| below(t, wanted));
+        let rising = times[i].is_ok_and(|t| below(t, wanted));
         halve(Bracket { lower, upper: lower + SPACING, halvings: 0 }, rising, &side)
     };
     Crossings { brackets: found.iter().take(PLACES).map(bracket).collect(), walk }
 }
 
+/// Returns the first void station.
+fn first_void(times: &[Result<f64, Void>]) -> Option<VoidStation> {
+    let rising = (LOWEST / SPACING..).zip(times);
+    rising.filter_map(|(j, time)| Some(VoidStation { j: j as i32, reason: time.err()? })).next()
+}
+
 /// Returns the index of the lower station of each crossing, in rising order.
-pub fn changes(times: &[Option<f64>], wanted: f64) -> impl Iterator<Item = usize> + '_ {
-    let crossing = move |(i, pair): (usize, &[Option<f64>])| match *pair {
-        [Some(s), Some(t)] if below(s, wanted) != below(t, wanted) => Some(i),
+pub fn changes(times: &[Result<f64, Void>], wanted: f64) -> impl Iterator<Item = usize> + '_ {
+    let crossing = move |(i, pair): (usize, &[Result<f64, Void>])| match *pair {
+        [Ok(s), Ok(t)] if below(s, wanted) != below(t, wanted) => Some(i),
         _ => None,
     };
     times.windows(2).enumerate().filter_map(crossing)

@@ -14,6 +14,18 @@ pub enum Void {
     NotFinite,
 }
 
+impl Void {
+    /// Returns the number of the reason (02, A4).
+    pub fn number(self) -> u16 {
+        match self {
+            Void::Range => 1,
+            Void::Root => 2,
+            Void::Divisor => 3,
+            Void::NotFinite => 4,
+        }
+    }
+}
+
 /// The distance between neighbouring stations in k.
 pub const SPACING: i64 = 1 << 20;
 /// The k of x = 1, where the orbit is a parabola.
@@ -42,12 +54,7 @@ pub fn time(lambda: f64, k: i64, m: u16) -> Result<f64, Void> {
     let eta = y - lambda * x;
     let q = (4.0 * hypergeometric(((1.0 + lambda) + x * eta) / 2.0)?) / 3.0;
     let first = (((eta * eta) * eta) * q + (4.0 * lambda) * eta) / 2.0;
-    let whole = if m == 0 { first } else { first + turns(u, m)? };
-    if whole.is_finite() {
-        Ok(whole)
-    } else {
-        Err(Void::NotFinite)
-    }
+    finite(if m == 0 { first } else { first + turns(u, m)? })
 }
 
 /// Reports whether a place passes step 1. A NaN doesn't pass, because it isn't below 1.
@@ -105,6 +112,17 @@ fn quotient(a: f64, b: f64) -> Result<f64, Void> {
     }
 }
 
+/// Returns the result of the last step if it is finite. For every place that passes step 1 it is. 1 + L is a multiple
+/// of 2^-53, x of 2^-32 and η of 2^-80, so the least C1 above zero is at least 2^-113. G is then below 2^170. With whole
+/// revolutions u is above 2^-12.
+fn finite(time: f64) -> Result<f64, Void> {
+    if time.is_finite() {
+        Ok(time)
+    } else {
+        Err(Void::NotFinite)
+    }
+}
+
 #[cfg(test)]
 mod tests {
     use super::*;
@@ -150,7 +168,58 @@ mod tests {
         }
         assert_eq!(quotient(1.0, -0.0), Err(Void::Divisor));
         assert_eq!(hypergeometric(0.0), Err(Void::Divisor));
+        assert_eq!(hypergeometric(-f64::from_bits(1)), Err(Void::Root));
+    }
+
+    #[test]
+    fn the_reasons_are_numbered_1_to_4() {
+        let all = [Void::Range, Void::Root, Void::Divisor, Void::NotFinite];
+        assert_eq!(all.map(Void::number), [1, 2, 3, 4]);
+    }
+
+    /// Close to −1 there are lambdas for which C1 is below zero or zero at a station. The number of revolutions
+    /// doesn't matter there, unless it is out of range.
+    #[test]
+    fn reasons_at_the_first_station_and_at_others() {
+        let beside = |ulps: u64| -f64::from_bits(1f64.to_bits() - ulps);
+        for m in 0..=MOST_TURNS {
+            assert_eq!(time(beside(513), LOWEST, m), Err(Void::Root));
+            assert_eq!(time(beside(4_095), LOWEST, m), Err(Void::Divisor));
+            assert_eq!(time(beside(2), -PARABOLA / 2, m), Err(Void::Divisor));
+            assert_eq!(time(beside(3), -1_868 * SPACING, m), Err(Void::Root));
+        }
+        for ulps in [513, 4_095] {
+            assert_eq!(time(beside(ulps), LOWEST, MOST_TURNS + 1), Err(Void::Range));
+            assert_eq!(time(beside(ulps), LOWEST - 1, 0), Err(Void::Range));
+        }
+    }
+
+    /// A place with a zero divisor whose k is odd.
+    #[test]
+    fn a_zero_divisor_between_the_stations() {
+        let lambda = f64::from_bits(0xBFEF_FFFF_0010_0021);
+        assert_eq!(time(lambda, -4_293_918_687, 0), Err(Void::Divisor));
+    }
+
+    /// In step 7 the root comes before the divisor. At the parabola the divisor is zero and beyond it the root is
+    /// refused, but step 1 comes first.
+    #[test]
+    fn the_order_in_step_7() {
         assert_eq!(turns(0.0, 1), Err(Void::Divisor));
+        assert_eq!(turns(-0.0, 1), Err(Void::Divisor));
         assert_eq!(turns(-1.0, 1), Err(Void::Root));
+        for k in [PARABOLA, PARABOLA + 1, HIGHEST] {
+            assert_eq!(time(0.3, k, 1), Err(Void::Range));
+        }
+    }
+
+    #[test]
+    fn a_result_that_is_not_finite_comes_last() {
+        assert_eq!(finite(f64::MAX), Ok(f64::MAX));
+        for odd in [f64::INFINITY, f64::NEG_INFINITY, f64::NAN] {
+            assert_eq!(finite(odd), Err(Void::NotFinite));
+        }
+        assert_eq!(turns(2f64.powi(-690), 16).and_then(finite), Err(Void::NotFinite));
+        assert_eq!(turns(2f64.powi(-800), 16).and_then(finite), Err(Void::Divisor));
     }
 }

@@ -1,12 +1,19 @@
 //! Tests each rule of the board (02, A1) on examples.
 
 use super::*;
+use crate::message::COUNT;
 use crate::record::Record;
-use crate::solve::Entry as Solution;
-use crate::wire::put;
+use crate::solve::{Entry as Solution, Refusal};
+use crate::wire::{put, with};
 
+/// Returns a refusal of 16 bytes.
 fn refusal(job: u32, revision: u32, number: u16) -> Vec<u8> {
-    Record { job, revision, outcome: Err(number) }.write()
+    Record { job, revision, outcome: Err(Refusal::Number(number)) }.write()
+}
+
+/// Returns a refusal of 22 bytes with number 12.
+fn void(job: u32, revision: u32, j: i32, reason: u16) -> Vec<u8> {
+    Record { job, revision, outcome: Err(Refusal::Void { j, reason }) }.write()
 }
 
 fn answer(job: u32, revision: u32, n: usize) -> Vec<u8> {
@@ -90,6 +97,47 @@ fn different_records_of_a_revision_conflict() {
         let expected = slots(&[vec![10, 0, 0, 0, 4, 0, 4, 0, 0, 0, 7, 0, 0, 0]]);
         assert_eq!(board(&[answer(4, 7, 2), different.clone()]), expected);
         assert_eq!(board(&[different, answer(4, 7, 2)]), expected);
+    }
+}
+
+/// Two refusals with number 12 are different if only j or only the reason differs.
+#[test]
+fn different_void_stations_of_a_revision_conflict() {
+    let first = void(4, 7, -4_095, 1);
+    for other in [void(4, 7, -4_094, 1), void(4, 7, -4_095, 2), refusal(4, 7, 11), answer(4, 7, 1)] {
+        assert_eq!(board(&[first.clone(), other.clone()]), slots(&[conflict(4, 7)]));
+        assert_eq!(board(&[other, first.clone()]), slots(&[conflict(4, 7)]));
+    }
+    assert_eq!(board(&[first.clone(), first.clone()]), slots(std::slice::from_ref(&first)));
+    let higher = void(4, 8, 16_384, 4);
+    assert_eq!(board(&[first.clone(), higher.clone()]), slots(std::slice::from_ref(&higher)));
+    assert_eq!(board(&[higher.clone(), first]), slots(&[higher]));
+}
+
+/// Number 12 has a void station and no other number has one, in a posted record and in a slot.
+#[test]
+fn a_void_station_belongs_to_number_12_alone() {
+    let long = void(4, 7, -1, 2);
+    assert!(!bad(&slots(std::slice::from_ref(&long))));
+    assert_eq!(refused(&[0; SIZE], &long), None);
+    let mut malformed: Vec<Vec<u8>> =
+        [1u16, 11, 13, 14].map(|number| with(&long, COUNT, &number.to_le_bytes())).into();
+    malformed.extend([
+        refusal(4, 7, 12),
+        with(&long, LENGTH, &[12]),
+        with(&refusal(4, 7, 11), LENGTH, &[18]),
+    ]);
+    for record in malformed {
+        assert_eq!(refused(&[0; SIZE], &record), Some(MALFORMED), "{record:?}");
+        assert!(bad(&slots(&[record])));
+    }
+}
+
+#[test]
+fn any_void_station_is_held() {
+    for j in [0, -1, i32::MIN, i32::MAX] {
+        let held = [0, 1, 4, 5, u16::MAX].map(|reason| void(1 + u32::from(reason), 7, j, reason));
+        assert_eq!(board(&held), slots(&held));
     }
 }
 
@@ -193,7 +241,7 @@ fn slots_rise_and_free_ones_are_last() {
 
 #[test]
 fn zeros_follow_what_a_slot_holds() {
-    for held in [refusal(1, 1, 1), answer(1, 1, 7), conflict(1, 1), vec![]] {
+    for held in [refusal(1, 1, 1), void(1, 1, 1, 1), answer(1, 1, 7), conflict(1, 1), vec![]] {
         let mut bytes = slots(&[held.clone(), refusal(2, 2, 2)][..usize::from(!held.is_empty()) * 2]);
         for at in held.len()..SLOT {
             bytes[at] = 1;
@@ -209,7 +257,7 @@ fn zeros_follow_what_a_slot_holds() {
 
 #[test]
 fn job_0_is_not_held() {
-    for held in [refusal(0, 1, 1), answer(0, 1, 1), conflict(0, 1)] {
+    for held in [refusal(0, 1, 1), void(0, 1, 1, 1), answer(0, 1, 1), conflict(0, 1)] {
         assert!(bad(&slots(&[held])));
     }
 }

@@ -1,5 +1,5 @@
 //! Messages that compete on a board: many for few jobs and few revisions, and some for more jobs than a
-//! board holds. If `faults` is Some(n), about one message in n is preceded by a faulty one.
+//! board holds.
 
 use super::malformed;
 use super::messages::{message, refusal, variant};
@@ -7,7 +7,7 @@ use super::pick;
 use crate::random::Random;
 
 /// Returns messages for 1 to 5 jobs: new ones, repetitions of earlier ones, and earlier ones with one byte changed.
-pub fn few(faults: Option<u64>, r: &mut Random) -> Vec<Vec<u8>> {
+pub fn few(r: &mut Random) -> Vec<Vec<u8>> {
     let jobs = jobs(r.below(5) as usize + 1, r);
     let (lowest, revisions) = (pick(&[0, 1, 0x7FFF_FFFE, u32::MAX - 3], r), 1 + r.below(4));
     let mut all: Vec<Vec<u8>> = Vec::new();
@@ -20,11 +20,11 @@ pub fn few(faults: Option<u64>, r: &mut Random) -> Vec<Vec<u8>> {
         };
         all.push(next);
     }
-    with_faults(all, faults, r)
+    all
 }
 
 /// Returns one to three messages for each of the given number of jobs, in random order.
-pub fn crowd(jobs_in_all: usize, faults: Option<u64>, r: &mut Random) -> Vec<Vec<u8>> {
+pub fn crowd(jobs_in_all: usize, r: &mut Random) -> Vec<Vec<u8>> {
     let mut all = Vec::new();
     for job in jobs(jobs_in_all, r) {
         for _ in 0..1 + r.below(3) {
@@ -32,7 +32,7 @@ pub fn crowd(jobs_in_all: usize, faults: Option<u64>, r: &mut Random) -> Vec<Vec
             all.push(if r.below(4) == 0 { message(job, revision, r) } else { refusal(job, revision, r) });
         }
     }
-    with_faults(shuffled(all, r), faults, r)
+    shuffled(all, r)
 }
 
 /// Returns `n` different jobs: consecutive ones from 1, the highest ones, ones with small values in
@@ -55,8 +55,9 @@ fn jobs(n: usize, r: &mut Random) -> Vec<u32> {
     all
 }
 
-/// Inserts malformed messages and messages for job 0.
-fn with_faults(sound: Vec<Vec<u8>>, faults: Option<u64>, r: &mut Random) -> Vec<Vec<u8>> {
+/// Inserts malformed messages and messages for job 0. If `faults` is Some(n), about one message in n is preceded by
+/// one of these.
+pub fn with_faults(sound: Vec<Vec<u8>>, faults: Option<u64>, r: &mut Random) -> Vec<Vec<u8>> {
     let Some(n) = faults else { return sound };
     let faulty = |message: Vec<u8>| match r.below(n) {
         0 => vec![malformed::any(&message, r), message],

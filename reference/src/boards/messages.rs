@@ -1,10 +1,11 @@
 //! Well-formed records. Most are refusals with few different numbers, so that equal records for a job occur often.
 
 use super::pick;
-use crate::message::{Message, LAST_NUMBER, MOST_ENTRIES};
+use crate::message::{Message, COUNT, LAST_NUMBER, MOST_ENTRIES};
 use crate::random::Random;
-use crate::record::{Record, HEAD};
-use crate::solve::Entry;
+use crate::record::{Record, HEAD, LENGTH_SIZE, REFUSED_KIND, STATION};
+use crate::solve::{Entry, Refusal, VOID_NUMBER};
+use crate::wire::{part, put, JOB, KIND, LENGTH};
 
 /// Returns a refusal in most cases, because it is short. Otherwise returns an answer, mostly with one or two entries.
 pub fn message(job: u32, revision: u32, r: &mut Random) -> Vec<u8> {
@@ -18,7 +19,42 @@ pub fn message(job: u32, revision: u32, r: &mut Random) -> Vec<u8> {
 /// Returns a refusal. Half of the time its number is drawn from 1 to 3, else from all numbers.
 pub fn refusal(job: u32, revision: u32, r: &mut Random) -> Vec<u8> {
     let numbers = if r.below(2) == 0 { 3 } else { u64::from(LAST_NUMBER) };
-    Record { job, revision, outcome: Err(1 + r.below(numbers) as u16) }.write()
+    let outcome = Err(Refusal::Number(1 + r.below(numbers) as u16));
+    with_station(Record { job, revision, outcome }.write())
+}
+
+/// Adds the void station that number 12 needs. Its bytes are those of the job and of the revision, so that equal
+/// records for a job occur often. Records without number 12 are returned unchanged.
+fn with_station(mut record: Vec<u8>) -> Vec<u8> {
+    if has_number_12(&record) {
+        record.extend_from_within(JOB..JOB + STATION);
+        sized(record)
+    } else {
+        record
+    }
+}
+
+/// Takes the void station away from a refusal with number 12, which is then malformed. Other records are returned
+/// unchanged.
+pub fn without_station(mut record: Vec<u8>) -> Vec<u8> {
+    if has_number_12(&record) {
+        record.truncate(HEAD);
+        sized(record)
+    } else {
+        record
+    }
+}
+
+fn has_number_12(record: &[u8]) -> bool {
+    let [kind, number] = [KIND, COUNT].map(|at| u16::from_le_bytes(part(record, at)));
+    (kind, number) == (REFUSED_KIND, VOID_NUMBER)
+}
+
+/// Returns the record with the length of its size.
+fn sized(mut record: Vec<u8>) -> Vec<u8> {
+    let length = (record.len() - LENGTH_SIZE) as u32;
+    put(&mut record, LENGTH, &length.to_le_bytes());
+    record
 }
 
 /// Returns an answer with `n` entries of random values.
@@ -34,13 +70,15 @@ pub fn answer(job: u32, revision: u32, n: usize, r: &mut Random) -> Vec<u8> {
     Record { job, revision, outcome: Ok(floats.into_iter().map(entry).collect()) }.write()
 }
 
-/// Returns the record with one byte after job and revision changed, and still well-formed.
+/// Returns the record with another number, if it is a refusal, or with one byte of its entries changed. It is still
+/// well-formed.
 pub fn variant(record: &[u8], r: &mut Random) -> Vec<u8> {
     loop {
-        let mut other = record.to_vec();
+        let mut other = without_station(record.to_vec());
         let last = (HEAD - 2) as u64;
-        let at = last + r.below(record.len() as u64 - last);
+        let at = last + r.below(other.len() as u64 - last);
         other[at as usize] ^= pick(&[1, 1, 2, 4, 0x80, 0xFF], r);
+        let other = with_station(other);
         if Message::read(&other).is_some() {
             return other;
         }

@@ -3,7 +3,7 @@
 
 use super::malformed;
 use super::meetings::shuffled;
-use super::messages::{answer, message, refusal, variant};
+use super::messages::{answer, message, refusal, variant, without_station};
 use crate::board::{post, SIZE, SLOT};
 use crate::message::MOST_ENTRIES;
 use crate::random::Random;
@@ -16,7 +16,7 @@ const JOBS: u32 = 40;
 const HIGHEST: u32 = 5;
 
 /// Returns the records of the stream: two or three for each job, some of them in conflict, mixed with
-/// records that the board refuses.
+/// records that the board refuses. Of these, refusals with number 12 lack their void station.
 pub fn records() -> Vec<u8> {
     let mut r = Random::new(21);
     let mut all = Vec::new();
@@ -32,6 +32,7 @@ pub fn records() -> Vec<u8> {
         }
         all.push(first);
     }
+    let mut all: Vec<Vec<u8>> = all.into_iter().map(without_station).collect();
     all.extend(unfit(&mut r));
     shuffled(all, &mut r).concat()
 }

@@ -2,6 +2,7 @@
 
 use crate::link::{Came, Link};
 use crate::record::Record;
+use crate::solve::Refusal;
 
 /// Returns the records for an input of pieces. A refused length gets number 1, and nothing more is written
 /// after it. An unfinished question at the end also gets number 1.
@@ -23,7 +24,7 @@ pub fn answer(input: &[u8]) -> Vec<u8> {
 
 /// Returns the refusal of bytes that aren't a question.
 fn number_1() -> Vec<u8> {
-    Record { job: 0, revision: 0, outcome: Err(1) }.write()
+    Record { job: 0, revision: 0, outcome: Err(Refusal::Number(1)) }.write()
 }
 
 /// Splits the input into pieces. Each is a size as a u16, little-endian, and that many bytes. The last

@@ -1,12 +1,12 @@
 use super::*;
 use crate::entrance::ROOM;
 use crate::questions::document;
-use crate::time::{x_of, HIGHEST, LOWEST, PARABOLA};
+use crate::time::{x_of, Void, HIGHEST, LOWEST, PARABOLA};
 use crate::triangle::wanted_time;
 use crate::wire::Question;
 
 fn solved(q: Question) -> Result<Vec<Entry>, u16> {
-    solve(&q.write(), ROOM)
+    solve(&q.write(), ROOM).map_err(Refusal::number)
 }
 
 /// Returns a question with 01's triangle and the time that the place k takes.
@@ -29,8 +29,8 @@ fn the_document_s_question_has_too_little_time() {
 #[test]
 fn a_refusal_of_the_entrance_comes_first() {
     assert_eq!(solved(Question { revolutions: 17, ..document() }), Err(6));
-    assert_eq!(solve(&document().write(), ROOM - 1), Err(7));
-    assert_eq!(solve(&document().write()[..81], ROOM), Err(1));
+    assert_eq!(solve(&document().write(), ROOM - 1), Err(Refusal::Number(7)));
+    assert_eq!(solve(&document().write()[..81], ROOM), Err(Refusal::Number(1)));
 }
 
 /// A quarter of the unit circle. There 1 − x² is s/2.
@@ -75,14 +75,27 @@ fn times_past_the_ends() {
     assert_eq!(solved(larger(shortest, 0.999)), Err(11));
 }
 
+/// Without a crossing, a void station gives number 12, which returns that station's j and its reason.
 #[test]
 fn no_crossings_too_many_and_voids() {
     let b = Bracket { lower: 0, upper: 1, halvings: 20 };
-    let number = |n: usize, walk| check_crossings(&Crossings { brackets: vec![b; n], walk }).err();
-    assert_eq!(number(0, Walk::Timed), Some(11));
-    assert_eq!(number(0, Walk::Void), Some(12));
-    assert_eq!(number(8, Walk::Ninth), Some(13));
-    assert_eq!((number(1, Walk::Void), number(8, Walk::Timed), number(8, Walk::Void)), (None, None, None));
+    let refusal = |n: usize, walk| check_crossings(&Crossings { brackets: vec![b; n], walk }).err();
+    for (j, reason, number) in
+        [(-4_095, Void::Range, 1), (-1, Void::Root, 2), (0, Void::Divisor, 3), (16_384, Void::NotFinite, 4)]
+    {
+        let void = Walk::Void(VoidStation { j, reason });
+        assert_eq!(refusal(0, void), Some(Refusal::Void { j, reason: number }));
+        assert_eq!((refusal(1, void), refusal(8, void)), (None, None));
+    }
+    assert_eq!(refusal(0, Walk::Timed), Some(Refusal::Number(11)));
+    assert_eq!(refusal(8, Walk::Ninth), Some(Refusal::Number(13)));
+    assert_eq!(refusal(8, Walk::Timed), None);
+}
+
+#[test]
+fn the_number_of_a_refusal() {
+    assert_eq!(Refusal::Void { j: 7, reason: 2 }.number(), 12);
+    assert_eq!(Refusal::Number(14).number(), 14);
 }
 
 #[test]

@@ -23,7 +23,7 @@ fn entries(record: &Record) -> &[Entry] {
 fn enough_of_every_number_and_of_every_count() {
     let mut tally = BTreeMap::new();
     for (_, record) in rows() {
-        let kind = record.outcome.as_ref().map(Vec::len).map_err(|&n| n);
+        let kind = record.outcome.as_ref().map(Vec::len).map_err(|refusal| refusal.number());
         *tally.entry(kind).or_insert(0) += 1;
     }
     println!("{} slots: {tally:?}", rows().len());

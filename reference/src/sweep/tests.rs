@@ -1,15 +1,20 @@
 //! Tests 01's rules for stations, sides and crossings on made-up times.
 
 use super::*;
-use crate::time::PARABOLA;
+use crate::time::{time_at, PARABOLA};
 
-fn timed(times: &[f64]) -> Vec<Option<f64>> {
-    times.iter().map(|&t| Some(t)).collect()
+fn timed(times: &[f64]) -> Vec<Result<f64, Void>> {
+    times.iter().map(|&t| Ok(t)).collect()
 }
 
 /// Returns the crossings among a few stations, if no middle has a time.
-fn among(times: &[Option<f64>], wanted: f64) -> Crossings {
-    crossings_of(times, wanted, |_| None)
+fn among(times: &[Result<f64, Void>], wanted: f64) -> Crossings {
+    crossings_of(times, wanted, |_| Err(Void::Root))
+}
+
+/// Returns what the sweep finds if its first void station is station number `i`, counted from 0.
+fn void(i: i32, reason: Void) -> Walk {
+    Walk::Void(VoidStation { j: i - 4_095, reason })
 }
 
 /// Returns the index of the lower station of each crossing, for the wanted time 2.
@@ -55,19 +60,57 @@ fn equal_stations_in_a_row_are_on_one_side() {
 /// If the times cross the wanted time twice inside one pair, the pair's ends are on the same side.
 #[test]
 fn two_roots_inside_one_pair_are_not_seen() {
-    let found = crossings_of(&timed(&[3.0, 3.0]), 2.0, |_| Some(1.0));
+    let found = crossings_of(&timed(&[3.0, 3.0]), 2.0, |_| Ok(1.0));
     assert_eq!(found, Crossings { brackets: vec![], walk: Walk::Timed });
 }
 
-/// A pair with a void station isn't a crossing. The void station is reported beside the crossings.
+/// A pair with a void station isn't a crossing. The first void station is reported beside the crossings.
 #[test]
 fn void_stations() {
-    let (a, b) = (Some(1.0), Some(3.0));
-    assert_eq!(among(&[a, None, b], 2.0), Crossings { brackets: vec![], walk: Walk::Void });
-    let found = among(&[None, a, b, None, a], 2.0);
-    assert_eq!((found.brackets.len(), found.walk), (1, Walk::Void));
+    let (a, b) = (Ok(1.0), Ok(3.0));
+    let [root, divisor, odd] = [Void::Root, Void::Divisor, Void::NotFinite];
+    let nothing = |walk| Crossings { brackets: vec![], walk };
+    assert_eq!(among(&[a, Err(divisor), b], 2.0), nothing(void(1, divisor)));
+    let found = among(&[Err(root), a, b, Err(divisor), a], 2.0);
+    assert_eq!((found.brackets.len(), found.walk), (1, void(0, root)));
     assert_eq!(found.brackets[0].lower, LOWEST + SPACING);
-    assert_eq!(among(&[None, None], 2.0), Crossings { brackets: vec![], walk: Walk::Void });
+    assert_eq!(among(&[Err(odd), Err(root)], 2.0), nothing(void(0, odd)));
+    assert_eq!(among(&[a, a, Err(divisor)], 2.0), nothing(void(2, divisor)));
+}
+
+/// The first void station is the lowest one, before or after the crossings, whatever the reasons of later ones.
+#[test]
+fn the_first_void_station_among_crossings() {
+    for n in 0..=PLACES {
+        for i in 0..=n + 1 {
+            let mut times = zigzag(n);
+            times.insert(i, Err(Void::Divisor));
+            times.push(Err(Void::Range));
+            assert_eq!(among(&times, 2.0).walk, void(i as i32, Void::Divisor), "{n} {i}");
+        }
+    }
+}
+
+/// The last station's j is 16,384 without whole revolutions and 4,095 with some.
+#[test]
+fn the_last_station_may_be_the_only_void_one() {
+    for (m, j) in [(0, 16_384), (1, 4_095)] {
+        let mut times = vec![Ok(1.0); stations(m).count()];
+        *times.last_mut().unwrap() = Err(Void::NotFinite);
+        assert_eq!(among(&times, 2.0).walk, Walk::Void(VoidStation { j, reason: Void::NotFinite }));
+    }
+}
+
+#[test]
+fn lines() {
+    let b = Bracket { lower: -2, upper: 3, halvings: 20 };
+    let line = |n: usize, walk| Crossings { brackets: vec![b; n], walk }.line();
+    assert_eq!(line(0, Walk::Timed), "0 timed");
+    assert_eq!(line(0, void(0, Void::Range)), "0 void fffff001 1");
+    assert_eq!(line(0, void(20_479, Void::NotFinite)), "0 void 00004000 4");
+    let bracket = "fffffffffffffffe 0000000000000003 20";
+    assert_eq!(line(1, void(4_094, Void::Root)), format!("1 void ffffffff 2 {bracket}"));
+    assert_eq!(line(2, Walk::Ninth), format!("2 ninth {bracket} {bracket}"));
 }
 
 /// The middles are odd multiples of 2^19, 2^18 and so on above the lower station. The first void middle
@@ -76,7 +119,7 @@ fn void_stations() {
 fn a_void_middle_at_every_depth() {
     for depth in 0..=20 {
         let width = 1i64 << (20 - depth);
-        let time = |k: i64| ((k - LOWEST) % width == 0).then_some(slope(k));
+        let time = |k: i64| ((k - LOWEST) % width == 0).then_some(slope(k)).ok_or(Void::Root);
         for root in [1, 2, 3, 524_287, 524_288, 524_289, 700_001, 1_048_575] {
             let wanted = root as f64;
             let times = timed(&[0.0, SPACING as f64]);
@@ -91,7 +134,7 @@ fn a_void_middle_at_every_depth() {
 #[test]
 fn a_void_place_beside_the_path_is_not_met() {
     let beside = LOWEST + 3 * SPACING / 4;
-    let time = |k: i64| (k != beside).then_some(slope(k));
+    let time = |k: i64| (k != beside).then_some(slope(k)).ok_or(Void::Root);
     let found = crossings_of(&timed(&[0.0, SPACING as f64]), 5.0, time);
     let b = Bracket { lower: LOWEST + 4, upper: LOWEST + 5, halvings: 20 };
     assert_eq!(found.brackets, [b]);
@@ -100,7 +143,7 @@ fn a_void_place_beside_the_path_is_not_met() {
 /// On a falling slope the lower end isn't below, so a middle equal to the wanted time replaces the lower end.
 #[test]
 fn a_falling_slope() {
-    let fall = |k: i64| Some(-slope(k));
+    let fall = |k: i64| Ok(-slope(k));
     let found = crossings_of(&timed(&[0.0, -(SPACING as f64)]), -5.0, fall);
     let b = Bracket { lower: LOWEST + 5, upper: LOWEST + 6, halvings: 20 };
     assert_eq!(found, Crossings { brackets: vec![b], walk: Walk::Timed });
@@ -109,15 +152,15 @@ fn a_falling_slope() {
 #[test]
 fn the_bracket_of_a_later_pair() {
     let root = 3 * SPACING + 77;
-    let times: Vec<_> = (0..6).map(|i| Some((i * SPACING) as f64)).collect();
-    let found = crossings_of(&times, root as f64, |k| Some(slope(k)));
+    let times: Vec<_> = (0..6).map(|i| Ok((i * SPACING) as f64)).collect();
+    let found = crossings_of(&times, root as f64, |k| Ok(slope(k)));
     let b = Bracket { lower: LOWEST + root - 1, upper: LOWEST + root, halvings: 20 };
     assert_eq!(found.brackets, [b]);
 }
 
 /// Returns times that change sides `n` times.
-fn zigzag(n: usize) -> Vec<Option<f64>> {
-    (0..=n).map(|i| Some(if i % 2 == 0 { 1.0 } else { 3.0 })).collect()
+fn zigzag(n: usize) -> Vec<Result<f64, Void>> {
+    (0..=n).map(|i| Ok(if i % 2 == 0 { 1.0 } else { 3.0 })).collect()
 }
 
 #[test]
@@ -134,15 +177,15 @@ fn nine_crossings_end_the_walk() {
     for n in [9, 10, 40] {
         for (before, after) in [(false, false), (true, false), (false, true)] {
             let mut times = zigzag(n);
-            times.splice(0..0, before.then_some(None));
-            times.extend(after.then_some(None));
+            times.splice(0..0, before.then_some(Err(Void::Root)));
+            times.extend(after.then_some(Err(Void::Root)));
             let found = among(&times, 2.0);
             assert_eq!((found.brackets.len(), found.walk), (PLACES, Walk::Ninth));
         }
     }
     let mut times = zigzag(8);
-    times.push(None);
-    assert_eq!(among(&times, 2.0).walk, Walk::Void);
+    times.push(Err(Void::Root));
+    assert_eq!(among(&times, 2.0).walk, void(9, Void::Root));
 }
 
 /// No time is below a NaN or −∞, and every time is below ∞, so all stations are on the same side.
@@ -165,10 +208,21 @@ fn a_wanted_time_of_a_real_curve() {
     assert!(t(b.lower) >= wanted && t(b.upper) < wanted);
 }
 
-/// Every station is void if lambda isn't below 1 in size or M is above 16.
+/// Every station is void if lambda isn't below 1 in size or M is above 16. Then the first one is the lowest one.
 #[test]
 fn nothing_but_void_stations() {
     for (lambda, m) in [(1.0, 0), (-1.0, 3), (f64::NAN, 0), (0.5, 17)] {
-        assert_eq!(crossings(lambda, m, 1.0), Crossings { brackets: vec![], walk: Walk::Void });
+        let all_void = Crossings { brackets: vec![], walk: void(0, Void::Range) };
+        assert_eq!(crossings(lambda, m, 1.0), all_void);
+    }
+}
+
+/// Lambdas close to −1 for which the lowest station is void, by a refused root and by a zero divisor.
+#[test]
+fn void_stations_of_real_curves() {
+    let walk = |ulps: u64, m: u16| crossings(-f64::from_bits(1f64.to_bits() - ulps), m, f64::INFINITY).walk;
+    for m in [0, 1, 16] {
+        assert_eq!(walk(513, m), void(0, Void::Root));
+        assert_eq!(walk(4_095, m), void(0, Void::Divisor));
     }
 }

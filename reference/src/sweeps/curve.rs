@@ -2,7 +2,7 @@
 
 use crate::random::Random;
 use crate::sweep::{crossings_of, stations, Crossings};
-use crate::time::time_at;
+use crate::time::{time, Void};
 
 /// The number of sorts of wanted times.
 pub const SORTS: u64 = 14;
@@ -15,19 +15,19 @@ pub const ODD: [f64; 9] =
 pub struct Curve {
     lambda: f64,
     m: u16,
-    times: Vec<Option<f64>>,
+    times: Vec<Result<f64, Void>>,
     known: Vec<f64>,
 }
 
 impl Curve {
     pub fn new(lambda: f64, m: u16) -> Curve {
-        let times: Vec<Option<f64>> = stations(m).map(|k| time_at(lambda, k, m)).collect();
+        let times: Vec<Result<f64, Void>> = stations(m).map(|k| time(lambda, k, m)).collect();
         let known = times.iter().copied().flatten().collect();
         Curve { lambda, m, times, known }
     }
 
     pub fn crossings(&self, wanted: f64) -> Crossings {
-        crossings_of(&self.times, wanted, |k| time_at(self.lambda, k, self.m))
+        crossings_of(&self.times, wanted, |k| time(self.lambda, k, self.m))
     }
 
     /// Draws a wanted time of the given sort: a time between those of two neighbours, the time of a station to the

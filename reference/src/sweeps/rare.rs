@@ -7,16 +7,17 @@ use super::Case;
 use crate::random::Random;
 use crate::sweep::{Crossings, Walk};
 use crate::time::MOST_TURNS;
+use std::mem::{discriminant, Discriminant};
 
 /// How many sweeps of each shape are kept, and how many curves are searched.
 const KEPT: usize = 6;
 const CURVES: u32 = 600;
 
-/// The number of crossings, the walk, and whether some bracket ends at a void middle.
-type Shape = (usize, Walk, bool);
+/// The number of crossings, the sort of walk, and whether some bracket ends at a void middle.
+type Shape = (usize, Discriminant<Walk>, bool);
 
 fn shape(c: &Crossings) -> Shape {
-    (c.brackets.len(), c.walk, c.brackets.iter().any(|b| b.halvings < 20))
+    (c.brackets.len(), discriminant(&c.walk), c.brackets.iter().any(|b| b.halvings < 20))
 }
 
 /// Returns sweeps that aren't ordinary. A sweep is ordinary if it has at most two crossings, all stations
@@ -29,7 +30,7 @@ pub fn cases(r: &mut Random) -> Vec<Case> {
         for n in 0..24 {
             let wanted = [curve.any(r), curve.peak(r), curve.low(r)][n % 3];
             let shape = shape(&curve.crossings(wanted));
-            let ordinary = shape.0 <= 2 && shape.1 == Walk::Timed && !shape.2;
+            let ordinary = shape.0 <= 2 && shape.1 == discriminant(&Walk::Timed) && !shape.2;
             if !ordinary && found.iter().filter(|f| f.0 == shape).count() < KEPT {
                 found.push((shape, Case::new(lambda, wanted, m)));
             }

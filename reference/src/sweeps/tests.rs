@@ -1,9 +1,10 @@
 //! The list is as long and as varied as the comparison needs.
 
 use super::*;
-use crate::sweep::{stations, Crossings, Walk};
-use crate::time::time_at;
+use crate::sweep::{stations, Crossings, VoidStation, Walk};
+use crate::time::{time_at, Void};
 use std::collections::{BTreeMap, BTreeSet};
+use std::mem::discriminant;
 use std::sync::OnceLock;
 
 /// Returns every case with its crossings, computed once for all tests.
@@ -42,21 +43,23 @@ fn every_number_of_turns_for_320_triangles_and_more() {
 fn every_count_and_every_walk() {
     let mut tally = BTreeMap::new();
     for (_, c) in rows() {
-        *tally.entry((c.brackets.len(), format!("{:?}", c.walk), stopped_early(c))).or_insert(0) += 1;
+        let word = ["timed", "void", "ninth"].into_iter().find(|word| c.line().contains(word));
+        *tally.entry((c.brackets.len(), word, stopped_early(c))).or_insert(0) += 1;
     }
     println!("{} sweeps", rows().len());
-    tally.iter().for_each(|((n, walk, early), rows)| println!("{n} {walk} stopped early: {early}, {rows}"));
+    tally.iter().for_each(|(kind, rows)| println!("crossings, walk, stopped early {kind:?}: {rows}"));
     let at_least = |n: usize, walk: Walk, least: usize| {
-        let some = rows().iter().filter(|(_, c)| c.brackets.len() == n && c.walk == walk);
-        assert!(some.count() >= least, "{n} {walk:?}");
+        let same = |c: &Crossings| c.brackets.len() == n && discriminant(&c.walk) == discriminant(&walk);
+        assert!(rows().iter().filter(|(_, c)| same(c)).count() >= least, "{n} {walk:?}");
     };
+    let void = Walk::Void(VoidStation { j: 0, reason: Void::Root });
     for n in 0..=2 {
         at_least(n, Walk::Timed, 500);
-        at_least(n, Walk::Void, 100);
+        at_least(n, void, 100);
     }
     for n in 3..=8 {
         at_least(n, Walk::Timed, 5);
-        at_least(n, Walk::Void, 10);
+        at_least(n, void, 10);
     }
     at_least(8, Walk::Ninth, 50);
     assert!(rows().iter().filter(|(_, c)| stopped_early(c)).count() >= 100);

@@ -5,6 +5,7 @@ use crate::link::Came;
 use crate::links::tests::due;
 use crate::links::{answer, records};
 use crate::record::{replies, split, Record};
+use crate::solve::Refusal;
 use std::collections::{BTreeMap, BTreeSet};
 
 /// Returns the bytes of the stream that the pieces of an input contain.
@@ -32,13 +33,14 @@ fn the_list_of_pieces() {
     let stream = stream_of(&pieces);
     let (asked, _, stopped) = end(&stream);
     assert!(stopped && stream.len() > (asked + 4) * QUESTION_SIZE);
-    let number_1 = Record { job: 0, revision: 0, outcome: Err(1) }.write();
+    let number_1 = Record { job: 0, revision: 0, outcome: Err(Refusal::Number(1)) }.write();
     let expected: Vec<Vec<u8>> = replies(&stream[..asked * QUESTION_SIZE]).chain([number_1]).collect();
     assert!(records == expected.concat());
     let mut kinds = BTreeMap::new();
     for record in split(&records) {
-        let outcome = Record::read(record).unwrap().outcome.map(|entries| entries.len());
-        *kinds.entry(outcome).or_insert(0) += 1;
+        let outcome = Record::read(record).unwrap().outcome;
+        let kind = outcome.map(|entries| entries.len()).map_err(Refusal::number);
+        *kinds.entry(kind).or_insert(0) += 1;
     }
     println!("{} bytes, {asked} questions: {kinds:?}", pieces.len());
     assert!((140..180).contains(&asked));

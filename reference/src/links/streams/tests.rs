@@ -6,6 +6,7 @@ use crate::link::{Came, Link};
 use crate::links::questions;
 use crate::links::tests::due;
 use crate::record::Record;
+use crate::solve::Refusal;
 use crate::wire::{part, LENGTH};
 use std::collections::BTreeSet;
 
@@ -48,7 +49,8 @@ fn bad_lengths_are_bad() {
 fn questions_have_the_right_length() {
     let mut r = Random::new(2);
     let faulty = faulty(&mut r);
-    let numbers: Vec<_> = faulty.iter().map(|q| Record::reply(q).outcome.err()).collect();
+    let number = |q: &Vec<u8>| Record::reply(q).outcome.err().map(Refusal::number);
+    let numbers: Vec<_> = faulty.iter().map(number).collect();
     assert!(numbers[..10].iter().all(|number| *number == Some(1)), "{numbers:?}");
     assert_eq!(numbers[10..], [6, 2, 2, 4, 5].map(Some));
     for q in [faulty, wild(&mut r), vec![good(&mut r)]].concat() {

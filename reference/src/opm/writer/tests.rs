@@ -4,6 +4,7 @@ use super::super::tests::{answer, message as right, written, R1, TEXTS, V1};
 use super::*;
 use crate::message::{CHOSEN, COUNT};
 use crate::record::{ENTRY, HEAD};
+use crate::solve::Refusal;
 use crate::wire::{with, JOB, KIND, LENGTH};
 
 /// The number of entries of the answer in these tests.
@@ -60,9 +61,10 @@ fn every_set_of_faults_gives_the_first() {
 #[test]
 fn b1_malformed_or_kind_3() {
     let good = taken().answer;
-    let refusal = Record { job: 7, revision: 2, outcome: Err(11) }.write();
+    let refused = |refusal| Record { job: 7, revision: 2, outcome: Err(refusal) }.write();
+    let (refusal, void) = (refused(Refusal::Number(11)), refused(Refusal::Void { j: -1, reason: 2 }));
     let conflict = crate::board::conflict(7, 2);
-    let mut bad = vec![vec![], refusal, conflict, good[1..].to_vec(), good[..good.len() - 1].to_vec()];
+    let mut bad = vec![vec![], refusal, void, conflict, good[1..].to_vec(), good[..good.len() - 1].to_vec()];
     bad.push([&good[..], &[0]].concat());
     bad.extend([0u16, 1, 3, 4, 5, 0x0102].map(|kind| with(&good, KIND, &kind.to_le_bytes())));
     bad.extend([0u16, 2, 4, 8, 9, 259].map(|n| with(&good, COUNT, &n.to_le_bytes())));
