@@ -5,8 +5,11 @@ mod ends;
 mod lambdas;
 mod near;
 mod stations;
+mod two_reasons;
+mod void_stations;
+mod zero_divisors;
 
-use crate::random::Random;
+use crate::random::{pick, Random};
 use crate::time::time;
 
 pub const FRAME: usize = 18;
@@ -51,7 +54,23 @@ pub fn places() -> Vec<Place> {
     all.extend(near::places(&mut r));
     all.extend(anywhere::inside(&mut r));
     all.extend(anywhere::outside(&mut r));
+    all.extend(void_stations::places());
+    all.extend(zero_divisors::places(&mut r));
+    all.extend(two_reasons::places(&mut r));
     all
+}
+
+/// Draws a place with a lambda close to −1, where roots are refused and divisors are zero, or close to 1.
+pub fn close_to_one(r: &mut Random) -> Place {
+    match r.below(4) {
+        0 => near::place(r.below(42) as u32, r),
+        1 => {
+            let p = near::place(r.below(42) as u32, r);
+            let sign = [0, 1 << 63];
+            Place { lambda: p.lambda ^ pick(&sign, r), k: pick(&[p.k, -p.k], r), ..p }
+        }
+        _ => zero_divisors::place(r),
+    }
 }
 
 #[cfg(test)]

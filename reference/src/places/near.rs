@@ -11,7 +11,7 @@ pub fn places(r: &mut Random) -> Vec<Place> {
 
 /// Draws a place. 1 + L is drawn from one to two times a power of two, for each power from 2^-53 to 2^-12
 /// in turn. x is drawn from −1 to 0, often close to an end.
-fn place(i: u32, r: &mut Random) -> Place {
+pub fn place(i: u32, r: &mut Random) -> Place {
     let gap = 2f64.powi(-53 + (i % 42) as i32) * (1.0 + r.fraction());
     let k = match r.below(3) {
         0 => LOWEST + r.bits(24) as i64,

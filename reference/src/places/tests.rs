@@ -16,9 +16,19 @@ fn times_and_every_kind_of_void_occur() {
     let timed = outcomes.iter().filter(|o| o.is_ok()).count();
     let voids = [Void::Range, Void::Root, Void::Divisor].map(count);
     println!("{} places: {timed} timed, void by range, root, divisor: {voids:?}", all.len());
-    assert!(all.len() >= 60_000 && timed >= 30_000);
-    assert!(voids.iter().all(|&n| n >= 20), "{voids:?}");
+    assert!(all.len() >= 100_000 && timed >= 80_000);
+    assert!(voids.iter().all(|&n| n >= 1_000), "{voids:?}");
     assert_eq!(count(Void::NotFinite), 0);
+}
+
+#[test]
+fn places_close_to_one_have_every_reason_but_the_last() {
+    let mut r = Random::new(1);
+    let outcomes: Vec<_> = (0..10_000).map(|_| outcome(&close_to_one(&mut r))).collect();
+    let count = |why: Void| outcomes.iter().filter(|&&o| o == Err(why)).count();
+    let voids = [Void::Range, Void::Root, Void::Divisor].map(count);
+    println!("of 10000 places close to one, void by range, root, divisor: {voids:?}");
+    assert!(voids[1] > 500 && voids[2] > 500 && count(Void::NotFinite) == 0);
 }
 
 #[test]
@@ -49,6 +59,8 @@ fn frames_are_18_bytes() {
 fn lines_are_sixteen_digits_or_void_and_a_reason() {
     assert_eq!(Place::new(-0.5, 1 << 32, 0).line(), "3fe8000000000000");
     assert_eq!(Place::new(1.0, 0, 0).line(), "void 1");
+    assert_eq!(Place::new(zero_divisors::beside_minus_one(513), LOWEST, 0).line(), "void 2");
+    assert_eq!(Place::new(zero_divisors::beside_minus_one(4_095), LOWEST, 0).line(), "void 3");
 }
 
 #[test]
