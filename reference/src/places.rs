@@ -7,7 +7,7 @@ mod near;
 mod stations;
 mod two_reasons;
 mod void_stations;
-mod zero_divisors;
+pub(crate) mod zero_divisors;
 
 use crate::random::{pick, Random};
 use crate::time::time;

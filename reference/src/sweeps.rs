@@ -4,6 +4,7 @@ mod curve;
 mod lambdas;
 mod outside;
 mod rare;
+mod void_stations;
 
 use crate::random::Random;
 use crate::sweep::crossings;
@@ -45,7 +46,14 @@ pub fn cases() -> Vec<Case> {
     let mut all = every_turn(&mut r);
     all.extend(rare::cases(&mut r));
     all.extend(outside::cases(&mut r));
+    all.extend(void_stations::cases(&mut r));
     all
+}
+
+/// Returns sweeps with void stations, drawn from a seed: in rising x the first void one is the first station or a later
+/// one, with and without crossings below and above it.
+pub fn with_void_stations(seed: u64) -> Vec<Case> {
+    void_stations::cases(&mut Random::new(seed))
 }
 
 /// Returns sweeps with every number of whole revolutions for each lambda. The sort of the wanted time

@@ -39,6 +39,13 @@ pub fn lambda(k: i64, r: &mut Random) -> f64 {
     beside_minus_one(odd * (1 + r.below(most.max(1))))
 }
 
+/// Draws such a lambda with a g from an eighth of the largest one on, where few stations are void.
+pub fn wide_lambda(k: i64, r: &mut Random) -> f64 {
+    let odd = k.unsigned_abs() >> k.trailing_zeros();
+    let most = WIDEST / odd;
+    beside_minus_one(odd * (most - r.below(most - most / 8)))
+}
+
 /// Returns the lambda that is the given number of units of 2^-53 above −1.
 pub fn beside_minus_one(units: u64) -> f64 {
     f64::from_bits((-1f64).to_bits() - units)

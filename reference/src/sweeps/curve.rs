@@ -1,5 +1,6 @@
 //! The times of all stations, and wanted times that are drawn from them.
 
+use super::void_stations::{self, Shape};
 use crate::random::Random;
 use crate::sweep::{crossings_of, stations, Crossings};
 use crate::time::{time, Void};
@@ -30,6 +31,11 @@ impl Curve {
         crossings_of(&self.times, wanted, |k| time(self.lambda, k, self.m))
     }
 
+    /// Returns the shape of the sweep for a wanted time, or None if no station is void.
+    pub fn shape(&self, wanted: f64) -> Option<Shape> {
+        void_stations::shape(&self.times, wanted)
+    }
+
     /// Draws a wanted time of the given sort: a time between those of two neighbours, the time of a station to the
     /// bit, or a float next to it. The station is a random one, the one with the least time, the first, the last, or
     /// one that is above both neighbours. For the last sort, and if every station is void, it draws one of `ODD`.
@@ -57,6 +63,15 @@ impl Curve {
     /// Draws the time of a station.
     pub fn any(&self, r: &mut Random) -> f64 {
         self.known[r.below(self.known.len() as u64) as usize]
+    }
+
+    /// Draws the time of a station below the first void one. If there is none, draws the time of any station.
+    pub fn before_void(&self, r: &mut Random) -> f64 {
+        let count = self.times.iter().take_while(|time| time.is_ok()).count() as u64;
+        if count == 0 {
+            return self.any(r);
+        }
+        self.known[r.below(count) as usize]
     }
 
     /// Draws the time of a station that is above both neighbours. Rounding causes these peaks; if there is

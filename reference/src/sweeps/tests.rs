@@ -1,5 +1,6 @@
 //! The list is as long and as varied as the comparison needs.
 
+use super::void_stations::{Others, Shape};
 use super::*;
 use crate::sweep::{stations, Crossings, VoidStation, Walk};
 use crate::time::{time_at, Void};
@@ -63,6 +64,63 @@ fn every_count_and_every_walk() {
     }
     at_least(8, Walk::Ninth, 50);
     assert!(rows().iter().filter(|(_, c)| stopped_early(c)).count() >= 100);
+}
+
+/// Returns how many sweeps there are of each shape of void stations, computed once for all tests.
+fn void_shapes() -> &'static BTreeMap<Shape, usize> {
+    static SHAPES: OnceLock<BTreeMap<Shape, usize>> = OnceLock::new();
+    SHAPES.get_or_init(|| {
+        let shape = |c: &Case| Curve::new(f64::from_bits(c.lambda), c.m).shape(f64::from_bits(c.wanted));
+        let mut tally = BTreeMap::new();
+        let untimed = rows().iter().filter(|(_, c)| c.walk != Walk::Timed);
+        untimed.filter_map(|(case, _)| shape(case)).for_each(|s| *tally.entry(s).or_insert(0) += 1);
+        tally
+    })
+}
+
+fn has_shape(is: impl Fn(&Shape) -> bool) -> bool {
+    void_shapes().keys().any(is)
+}
+
+/// With every number of crossings, the first void station is the first station or a later one, with both reasons.
+#[test]
+fn where_the_first_void_station_is_and_why() {
+    void_shapes().iter().for_each(|(shape, rows)| println!("{shape:?}: {rows}"));
+    println!("{} shapes", void_shapes().len());
+    for crossings in 0..=9 {
+        let found = |reason, at_first| {
+            has_shape(|s| (s.crossings, s.reason, s.at_first) == (crossings, reason, at_first))
+        };
+        assert!(found(2, false) && found(2, true) && found(3, false) && found(3, true), "{crossings}");
+    }
+}
+
+/// The first void station is the only one, or others have another reason.
+#[test]
+fn whether_other_stations_are_void() {
+    for crossings in 0..=2 {
+        let found = |reason, at_first, others| {
+            has_shape(|s| {
+                (s.crossings, s.reason, s.at_first, s.others) == (crossings, reason, at_first, others)
+            })
+        };
+        let both = |reason, at_first| {
+            found(reason, at_first, Others::Nowhere) && found(reason, at_first, Others::Different)
+        };
+        assert!(both(2, false) && both(2, true) && both(3, false) && both(3, true), "{crossings}");
+    }
+    assert!(has_shape(|s| s.others == Others::Alike && s.reason == 2));
+}
+
+/// Crossings are below the first void station and above it. A ninth one is found above the first void station, and
+/// with every void station above it.
+#[test]
+fn which_crossings_come_before_the_first_void_station() {
+    for crossings in 1..=9 {
+        let found = |below| has_shape(|s| s.crossings == crossings && s.below == below);
+        assert!(found(true) && found(false), "{crossings}");
+    }
+    assert!(has_shape(|s| s.crossings == 9 && !s.above));
 }
 
 /// Reports whether some station's time equals the wanted time: between two below it, between two above it,
