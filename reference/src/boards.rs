@@ -7,6 +7,7 @@ pub(crate) mod messages;
 mod stage;
 mod steps;
 mod stream;
+mod void_stations;
 
 use crate::board::SLOT;
 use crate::random::{pick, Random};
@@ -16,6 +17,7 @@ use steps::{List, Step, LONGEST};
 
 pub use steps::lines as told;
 pub use stream::{board, records};
+pub use void_stations::records as void_records;
 
 /// Returns the frames of all steps of the fixed lists.
 pub fn frames() -> Vec<u8> {
@@ -31,8 +33,8 @@ fn framed(list: &[Step]) -> Vec<u8> {
     list.iter().flat_map(Step::frame).collect()
 }
 
-/// Returns the fixed lists. In those that post random messages, refusals with number 12 lack their void station, so the
-/// board refuses them.
+/// Returns the fixed lists. In the first ones that post random messages, refusals with number 12 lack their void
+/// station, so the board refuses them. In the last ones they have it.
 fn lists() -> Vec<List> {
     let mut r = Random::new(20);
     let mut all = vec![vec![Step::End]];
@@ -50,6 +52,12 @@ fn lists() -> Vec<List> {
     all.extend((0..8).map(|_| damage::sizes(&mut r)));
     all.extend((0..60).map(|_| damage::list(20, &mut r)));
     all.extend([(1, SLOT), (3, 40), (4, 100)].map(|(jobs, width)| damage::every_byte(jobs, width, &mut r)));
+    all.extend(void_stations::lists(&mut r));
+    for i in 0..12 {
+        let sound = if i < 10 { few(&mut r) } else { crowd(66, &mut r) };
+        let faults = if i % 2 == 0 { None } else { Some(5) };
+        all.extend(posted(&with_faults(sound, faults, &mut r), &mut r));
+    }
     all
 }
 
@@ -93,13 +101,18 @@ pub fn random(n: u64, seed: u64) -> impl Iterator<Item = Vec<u8>> {
 
 fn fresh(r: &mut Random) -> Vec<List> {
     let faults = pick(&[None, Some(3), Some(12)], r);
-    match r.below(12) {
+    match r.below(16) {
         0 => {
             let messages = crowd(60 + r.below(11) as usize, r);
             posted(&with_faults(messages, faults, r), r)
         }
         1 => vec![damage::sizes(r)],
         2 | 3 => vec![damage::list(20, r)],
+        4 => vec![void_stations::in_slots(r)],
+        5..=7 => {
+            let messages = void_stations::competing(r);
+            posted(&with_faults(messages, faults, r), r)
+        }
         _ => {
             let messages = few(r);
             posted(&with_faults(messages, faults, r), r)

@@ -14,6 +14,7 @@ const USAGE: &str =
        solver missions N SEED | solver tally ANSWERS |
        solver differ QUESTIONS ANSWERS ANSWERS | solver landing QUESTIONS ANSWERS |
        board frames | board lines | board random N SEED | board told | board records | board board |
+       board voids |
        link frames | link lines | link random N SEED | link told | link pieces | link records |
        link random_pieces N SEED | link answer
   root                 a line for each operand: its bits and the bits of its root, as hexadecimal digits
@@ -48,6 +49,7 @@ const USAGE: &str =
   board told           the lines of the frames on standard input
   board records        one stream of records, each by its length
   board board          the board's bytes after that stream
+  board voids          well-formed records, half of them refusals with number 12
   link frames          streams cut into pieces for the reader of a link; commands u16, little-endian: up to 4096
                        the size of a piece that follows; FFFF the end of a stream, and the reader's reset
   link lines           a line for each stream as it is cut: for each call Q a question, N nothing, R number 1 or
@@ -88,6 +90,7 @@ fn main() -> ExitCode {
         ["board", "told"] => write_told(&mut out, boards::told),
         ["board", "records"] => out.write_all(&boards::records()),
         ["board", "board"] => out.write_all(&boards::board()),
+        ["board", "voids"] => out.write_all(&boards::void_records()),
         ["link", "frames"] => out.write_all(&links::frames()),
         ["link", "lines"] => out.write_all(links::lines().as_bytes()),
         ["link", "random", n, seed] => write_fresh(&mut out, links::random, n, seed),

@@ -8,7 +8,7 @@ use super::steps::{List, Step};
 use crate::board::{conflict, SIZE, SLOT, SLOTS};
 use crate::random::Random;
 use crate::record::HEAD;
-use crate::wire::{part, put, JOB, KIND, LENGTH};
+use crate::wire::{part, put, with, JOB, KIND, LENGTH};
 
 /// A list under construction, and the state after its steps so far.
 struct Script {
@@ -75,6 +75,20 @@ pub fn every_byte(jobs: usize, width: usize, r: &mut Random) -> List {
     for place in (0..=jobs).flat_map(|slot| (0..width).map(move |at| SLOT * slot + at)) {
         let mut state = script.stage.state.clone();
         state[place] ^= pick(&[1, 2, 0x80, 0xFF], r);
+        script.round(&state, posted(&script.stage.state, jobs, r));
+    }
+    script.end()
+}
+
+/// Returns a list that puts each of the records into a slot in turn, with the slot's job and followed by zeros.
+pub fn holding(records: &[Vec<u8>], r: &mut Random) -> List {
+    let jobs = 3;
+    let mut script = Script::filled(jobs, r);
+    for record in records {
+        let mut state = script.stage.state.clone();
+        let slot = SLOT * r.below(jobs as u64) as usize;
+        let job: [u8; 4] = part(&state, slot + JOB);
+        hold(&mut state, slot, &with(record, JOB, &job));
         script.round(&state, posted(&script.stage.state, jobs, r));
     }
     script.end()

@@ -4,6 +4,7 @@
 use super::malformed;
 use super::meetings::shuffled;
 use super::messages::{answer, message, refusal, variant, without_station};
+use super::void_stations;
 use crate::board::{post, SIZE, SLOT};
 use crate::message::MOST_ENTRIES;
 use crate::random::Random;
@@ -16,7 +17,8 @@ const JOBS: u32 = 40;
 const HIGHEST: u32 = 5;
 
 /// Returns the records of the stream: two or three for each job, some of them in conflict, mixed with
-/// records that the board refuses. Of these, refusals with number 12 lack their void station.
+/// records that the board refuses. Of these, refusals with number 12 lack their void station. Then come records with and
+/// without void stations.
 pub fn records() -> Vec<u8> {
     let mut r = Random::new(21);
     let mut all = Vec::new();
@@ -34,18 +36,22 @@ pub fn records() -> Vec<u8> {
     }
     let mut all: Vec<Vec<u8>> = all.into_iter().map(without_station).collect();
     all.extend(unfit(&mut r));
-    shuffled(all, &mut r).concat()
+    let first = shuffled(all, &mut r);
+    let then = void_stations::stream(&mut r).into_iter().filter(|record| is_framed(record)).collect();
+    [first, shuffled(then, &mut r)].concat().concat()
+}
+
+/// Reports whether the record has the length of its size and is no longer than a slot.
+fn is_framed(record: &[u8]) -> bool {
+    let length = record.first_chunk().map(|b| u32::from_le_bytes(*b) as usize);
+    length.is_some_and(|length| length + LENGTH_SIZE == record.len() && record.len() <= SLOT)
 }
 
 /// Returns malformed records whose length matches their size, and records for job 0.
 fn unfit(r: &mut Random) -> Vec<Vec<u8>> {
     let (short, long) = (refusal(0x0505, 9, r), answer(0x0808, 9, 2, r));
-    let framed = |bytes: &Vec<u8>| {
-        let length = bytes.first_chunk().map(|b| u32::from_le_bytes(*b) as usize);
-        length.is_some_and(|length| length + LENGTH_SIZE == bytes.len() && bytes.len() <= SLOT)
-    };
     let mut all = [malformed::faults(&short, r), malformed::faults(&long, r)].concat();
-    all.retain(framed);
+    all.retain(|record| is_framed(record));
     all.extend([malformed::nobody(&short), malformed::nobody(&long)]);
     all
 }
