@@ -12,9 +12,10 @@ mod roots;
 mod sweeps;
 mod timing;
 
-use reference::places::{places, Place};
+use reference::places::{close_to_one, places, Place};
 use reference::random::Random;
-use reference::time;
+use reference::time::{self, Void};
+use std::iter::repeat_with;
 use std::process::ExitCode;
 
 const USAGE: &str = "usage: bench time|compare|questions|before
@@ -24,13 +25,14 @@ const USAGE: &str = "usage: bench time|compare|questions|before
   compare   the proved code against the reference: two million random roots; 13 million roots of subnormals, of
             squares, of numbers near squares of middles, of numbers around the ends of ranges, and of numbers
             whose estimate fails; 500,000 calls for four roots; the exact test of two million estimates; one
-            million places, 500 sweeps, 20,000 posts, 16,000 calls that write an orbit message and 34,000 that
-            read one
+            million places, 60,000 places with a lambda close to -1 or 1, 500 sweeps, several hundred sweeps with
+            void stations, 20,000 posts, 16,000 calls that write an orbit message and 34,000 that read one
   questions how many whole questions a second the proved program and the reference answer, and its memory
   before    the proved code of an earlier commit beside today's, on the same operands (bench/run before COMMIT)";
 
-/// What the C interface returns for a void place.
-const VOID: u64 = u64::MAX;
+/// What the C interface returns for a void place is this number plus the number of the reason. It is the bits of a NaN,
+/// which no time has.
+const VOID: u64 = 0x7FF8_0000_0000_0000;
 
 fn main() -> ExitCode {
     match std::env::args().skip(1).collect::<Vec<_>>().join(" ").as_str() {
@@ -46,7 +48,7 @@ fn main() -> ExitCode {
         "compare"
             if roots::compare(2_000_000, 500_000)
                 && estimates::check(1_000_000)
-                && compare_places(1_000_000)
+                && compare_places(1_000_000, 60_000)
                 && sweeps::compare(500)
                 && posts::compare(20_000)
                 && opms::compare(4_000, 12_000, 30_000) =>
@@ -81,13 +83,17 @@ fn report(what: &str, count: usize, [ours, theirs]: [f64; 2], (unit, other): (&s
     println!("  ratio      {:8.1}", ours / theirs);
 }
 
+fn reference_time(p: Place) -> Result<f64, Void> {
+    time::time(f64::from_bits(p.lambda), p.k, p.m)
+}
+
 fn reference_bits(p: Place) -> u64 {
-    time::time_at(f64::from_bits(p.lambda), p.k, p.m).map_or(VOID, f64::to_bits)
+    reference_time(p).map_or_else(|reason| VOID + u64::from(reason.number()), f64::to_bits)
 }
 
 /// Returns the places of the test vectors that have a time.
 fn timed_places() -> Vec<Place> {
-    places().into_iter().filter(|&p| reference_bits(p) != VOID).collect()
+    places().into_iter().filter(|&p| reference_time(p).is_ok()).collect()
 }
 
 /// Times the places. The time at a place takes four square roots, one after the other, and a fifth if there are whole
@@ -104,19 +110,33 @@ fn time_places(root: f64) {
     );
 }
 
-/// Compares times for lambdas in (-1, 1) at places over the whole range and a little beyond it.
-fn compare_places(count: u64) -> bool {
-    let mut random = Random::new(11);
-    for _ in 0..count {
-        let lambda = (2.0 * random.fraction() - 1.0).to_bits();
-        let k = random.below(22 << 30) as i64 - (5 << 30);
-        let p = Place { lambda, k, m: random.below(18) as u16 };
+/// Draws a lambda in (-1, 1) and a place over the whole range or a little beyond it.
+fn any_place(random: &mut Random) -> Place {
+    let lambda = (2.0 * random.fraction() - 1.0).to_bits();
+    let k = random.below(22 << 30) as i64 - (5 << 30);
+    Place { lambda, k, m: random.below(18) as u16 }
+}
+
+/// Compares the times and the reasons at `count` random places, and at `close` places with a lambda close to -1 or 1.
+fn compare_places(count: usize, close: usize) -> bool {
+    let (mut random, mut other) = (Random::new(11), Random::new(28));
+    same_times("places", repeat_with(|| any_place(&mut random)).take(count))
+        && same_times("places close to -1 or 1", repeat_with(|| close_to_one(&mut other)).take(close))
+}
+
+fn same_times(what: &str, places: impl Iterator<Item = Place>) -> bool {
+    let (mut count, mut void) = (0, [0; 4]);
+    for p in places {
         let (ours, theirs) = (proved::time_bits(p.lambda, p.k, p.m), reference_bits(p));
         if ours != theirs {
             println!("{p:?}: proved {ours:016x}, reference {theirs:016x}");
             return false;
         }
+        count += 1;
+        if let Err(reason) = reference_time(p) {
+            void[usize::from(reason.number()) - 1] += 1;
+        }
     }
-    println!("time at a place: {count} places, every bit equal");
+    println!("time at a place: {count} {what}, {void:?} of them void for reasons 1 to 4, every bit equal");
     true
 }

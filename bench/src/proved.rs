@@ -35,15 +35,16 @@ pub fn four_roots(numbers: &mut [f64; 4]) -> bool {
     unsafe { lambert_four_roots(numbers.as_mut_ptr()) }
 }
 
-/// Returns the bits of the time at the place `k` with `m` whole revolutions, for the lambda with the bits `b`,
-/// or all ones if the place is void.
+/// Returns the bits of the time at the place `k` with `m` whole revolutions, for the lambda with the bits `b`. If the place
+/// is void, returns 7FF8000000000000 in hexadecimal digits plus the number of the reason.
 pub fn time_bits(b: u64, k: i64, m: u16) -> u64 {
     // SAFETY: the function takes and returns numbers and has no precondition.
     unsafe { lambert_time_bits(b, k, m) }
 }
 
 /// Returns the number of crossings that the sweep lists for the lambda with the bits `b`, `m` whole revolutions and the wanted time
-/// with the bits `w`, plus 16 if a station is void, or plus 32 if there is a ninth crossing.
+/// with the bits `w`. If there is a ninth crossing, adds 32. If there is none and a station is void, adds 16, 2^8 times the number
+/// of the first void station's reason, and 2^32 times its j as a u32.
 pub fn sweep_number(b: u64, m: u16, w: u64) -> u64 {
     // SAFETY: the function takes and returns numbers and has no precondition.
     unsafe { lambert_sweep_number(b, m, w) }
