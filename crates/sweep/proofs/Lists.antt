@@ -49,7 +49,7 @@ keep-next p i = ap (keep p) (up-next i) ∙ keep-append p (upTo i) (i ∷ [])
 
 -- ---- the report about the times
 
-or-timed : (w : Walk) → orLater w AllTimed ≡ w
+pub or-timed : (w : Walk) → orLater w AllTimed ≡ w
 or-timed AllTimed = refl
 or-timed (SomeVoid station) = refl
 or-timed NinthFound = refl

@@ -16,8 +16,7 @@ use stations::last_station;
 use stations::side_of_station;
 pub use walks::VoidStation;
 pub use walks::Walk;
-use walks::or_later;
-use walks::void_at;
+use walks::report_with;
 use walks::walk_of;
 
 // The result of a sweep: the brackets of the first eight crossings, the lowest first. The list has
@@ -53,7 +52,7 @@ pub fn find_crossings(search: Search) -> Crossings
             list[count] = bracket_of(search, low, i - 1);
             count += 1;
         }
-        seen = or_later(seen, void_at(high, i));
+        seen = report_with(seen, high, i);
         low = high;
         i += 1;
     }

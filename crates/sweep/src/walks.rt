@@ -2,6 +2,7 @@
 ghost use mathlib.Core.Path.{_≡_};
 ghost use Rattle.stations.specs.Stations.{stationOf};
 ghost use Rattle.sweep.specs.Walks.{voidAt, orLater, walkOf};
+ghost use Rattle.sweep.specs.declared.walks.Walk.the-variants.{SomeVoid};
 use hypergeometric::Reason;
 use stations::Side;
 use stations::station_j;
@@ -21,27 +22,31 @@ pub enum Walk {
     NinthFound,
 }
 
-// Returns the report about station i alone, given its side.
-pub(crate) fn void_at(side: Side, i: u16) -> Walk
-    ensures { λ r. ⌜ r ≡ voidAt side (stationOf i) ⌝ }
+// Returns the report about the stations up to station i, given the report about those before it and the side of station i. Nearly every
+// station has a time, and then the report stays as it is.
+pub(crate) fn report_with(seen: Walk, side: Side, i: u16) -> Walk
+    ensures { λ r. ⌜ r ≡ orLater seen (voidAt side (stationOf i)) ⌝ }
 {
     match side {
-        Side::Below => Walk::AllTimed,
-        Side::NotBelow => Walk::AllTimed,
-        Side::Unknown(reason) => Walk::SomeVoid(VoidStation {
-            j: station_j(i),
-            reason,
-        }),
+        Side::Below => seen,
+        Side::NotBelow => seen,
+        Side::Unknown(reason) => or_void(
+            seen,
+            VoidStation {
+                j: station_j(i),
+                reason,
+            },
+        ),
     }
 }
 
-// Returns the report about some stations and the later ones together.
-pub(crate) fn or_later(first: Walk, later: Walk) -> Walk
-    ensures { λ r. ⌜ r ≡ orLater first later ⌝ }
+// Returns the report about some stations and a later one, which is void.
+fn or_void(seen: Walk, station: VoidStation) -> Walk
+    ensures { λ r. ⌜ r ≡ orLater seen (SomeVoid station) ⌝ }
 {
-    match first {
-        Walk::AllTimed => later,
-        Walk::SomeVoid(station) => Walk::SomeVoid(station),
+    match seen {
+        Walk::AllTimed => Walk::SomeVoid(station),
+        Walk::SomeVoid(first) => Walk::SomeVoid(first),
         Walk::NinthFound => Walk::NinthFound,
     }
 }

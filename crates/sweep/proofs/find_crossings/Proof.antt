@@ -1,6 +1,6 @@
 -- `find_crossings` meets its contract: the invariant is `Passed`, which states what is known about the stations below i. The measure is
 -- the number of stations left.
-use mathlib.Core.Path.{sym, ap, _∙_}
+use mathlib.Core.Path.{sym, _∙_}
 use mathlib.Core.Logic.{⊎-elim}
 use Prim.Native.Nat.{_+_, _-_, _≤_, _<_}
 use native.Mathlib.Omega.{arith}
@@ -10,7 +10,6 @@ use Rattle.stations.specs.Grid.{stations}
 use Rattle.stations.specs.Sides.{sideAt}
 use Rattle.stations.specs.SearchGrid.{gridFor, lastFor}
 use Rattle.stations.proofs.Places.{last-small}
-use Rattle.sweep.specs.Walks.{orLater}
 use Rattle.sweep.proofs.Turns.{Passed, starts, done, pair, too-many, passed, listed}
 use Rattle.sweep.proofs.find_crossings.Statement.{statement}
 use Rattle.sweep.proofs.find_crossings.Tie as tie
@@ -74,42 +73,36 @@ add-count c =
     let looped = compared .before .before .before in
     omega (arith, looped .stations .inv .most)
 
-void-at-requires : tie.Need-void-at-requires Inv-stations μ-stations
-void-at-requires c κs = tt
-
-or-later-requires : tie.Need-or-later-requires Inv-stations μ-stations
-or-later-requires c κs = tt
+report-with-requires : tie.Need-report-with-requires Inv-stations μ-stations
+report-with-requires c κs = tt
 
 add-i : tie.Need-add-i Inv-stations μ-stations
 add-i c =
-    let reported = c .before in
-    let compared = reported .before .before in
+    let compared = c .before .before in
     let sided = compared .before in
     omega (arith, small (sided .before))
 
 stations-less : tie.Need-stations-less Inv-stations μ-stations
 stations-less c =
-    let reported = c .before in
-    let compared = reported .before .before in
+    let compared = c .before .before in
     let sided = compared .before in
     omega (arith, sided .before .stations-test .taken)
 
 stations-again : tie.Need-stations-again Inv-stations μ-stations
 stations-again c =
-    let reported = c .before in
-    let compared = reported .before .before in
+    let compared = c .before .before in
     let sided = compared .before in
     let turn = sided .before in
     let inv = turn .before .stations .inv in
     let last = turn .before .before .last-station .result in
     let within : turn .before .stations .i ≤ last = omega (arith, turn .stations-test .taken) in
     let high = sided .side-of-station .ensures in
-    let seen = c .or-later .ensures ∙ ap (orLater (turn .before .stations .seen)) (reported .void-at .ensures) in
+    let seen = c .report-with .ensures in
     let test = sym (compared .are-opposite .ensures) in
     ⊎-elim
     (λ w. rw (w .3, w .4) (listed inv high seen within (test ∙ w .0 .taken) (w .1 .left) (w .2 .ensures)))
     (λ w. rw (w .1, w .2) (passed inv high seen within (test ∙ w .0 .left)))
-    (reported .before .if1 .came)
+    (c .before .if1 .came)
 
 walk-of-requires : tie.Need-walk-of-requires Inv-stations μ-stations
 walk-of-requires c κs = tt
@@ -147,8 +140,7 @@ find-crossings-spec =
     mul-list
     array-set-from-list
     add-count
-    void-at-requires
-    or-later-requires
+    report-with-requires
     add-i
     stations-less
     stations-again
