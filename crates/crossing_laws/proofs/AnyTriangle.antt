@@ -1,6 +1,6 @@
 -- What a sweep over any grid reports for searches that no question leads to: if L or the number of revolutions is outside the range of
--- step 1 of the time (`nothing-outside`, and `void-from-the-first` for the stations), and if the wanted time is a NaN (`nothing-at-nan`).
--- Also, a place whose side is known has a finite time (`known-finite`).
+-- step 1 of the time (`nothing-outside`, and `void-from-the-first` for the stations). If the wanted time is a NaN, no crossing is found
+-- (`nothing-at-nan`). Also, a place whose side is known has a finite time (`known-finite`).
 use mathlib.Core.Path.{_≡_, refl, subst}
 use mathlib.Core.Bool.{Bool, true, false, not, _||_}
 use mathlib.Core.Logic.{_⊎_, ⊎-elim}
@@ -72,10 +72,10 @@ unfolding sideAt sideOf timeOf
 outside-by s k e = rw e
 
 -- |L| is not below 1, or there are more than 16 whole revolutions.
-abbrev pub NoTriangle : Search → Type 0
-NoTriangle s = ((magnitudeOf (s .triangle .lambda) ≺ 1F) ≡ false) ⊎ (mostRevolutions < s .revolutions)
+abbrev pub AlwaysOutside : Search → Type 0
+AlwaysOutside s = ((magnitudeOf (s .triangle .lambda) ≺ 1F) ≡ false) ⊎ (mostRevolutions < s .revolutions)
 
-pub nothing-outside : (s : Search) (g : Grid) (last : ℕ) → NoTriangle s →
+pub nothing-outside : (s : Search) (g : Grid) (last : ℕ) → AlwaysOutside s →
     (sweepOf (sideAt s) g last .count ≡ 0)
     × (sweepOf (sideAt s) g last .walk ≡ SomeVoid (record { j = jOf (g .place 0); reason = OutsideRange }))
 unfolding outsideRange
@@ -85,7 +85,7 @@ nothing-outside s g last h =
     (⊎-elim (λ e. rw e) (λ l. or-true (not near) _ (rw (lt-ltb mostRevolutions (s .revolutions) l))) h))
 
 -- The sweep over the stations then reports the first station, whose j is −4095, with the reason `OutsideRange`.
-pub void-from-the-first : (s : Search) → NoTriangle s →
+pub void-from-the-first : (s : Search) → AlwaysOutside s →
     (sweepFor s .count ≡ 0) × (sweepFor s .walk ≡ SomeVoid (record { j = negℤ (pos 4095); reason = OutsideRange }))
 unfolding gridFor stationOf jOf
 void-from-the-first s h = nothing-outside s stations (lastFor s) h

@@ -52,7 +52,7 @@ use Rattle.crossing_laws.specs.StepTests.{
   NoneApplies,
   empty,
   nor,
-  isRefused,
+  rootRefused,
   rootNumber,
   angleNumbers,
   backNumber,
@@ -85,7 +85,7 @@ test-step test {left} {right} e = by (test .applies)
 root-step : (root : Root) (next : Float → HalfAngles) (rest : Angles → Place) {place : Place} →
     afterAngles (next (rootNumber root)) rest ≡ place →
     afterAngles (anglesAfterRoot root next) rest ≡ before (rootTest root) place
-unfolding rootTest rootNumber isRefused
+unfolding rootTest rootNumber rootRefused
 root-step (Value r) next rest e = e
 root-step Refused next rest e = refl
 
@@ -93,7 +93,7 @@ root-step Refused next rest e = refl
 revolving-root-step : (root : Root) (next : Float → StepValue) (rest : Float → Place) {place : Place} →
     afterStep (next (rootNumber root)) rest ≡ place →
     afterStep (afterRoot root next) rest ≡ before (rootTest root) place
-unfolding rootTest rootNumber isRefused
+unfolding rootTest rootNumber rootRefused
 revolving-root-step (Value r) next rest e = e
 revolving-root-step Refused next rest e = refl
 

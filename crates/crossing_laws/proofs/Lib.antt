@@ -6,3 +6,4 @@ pub mod FiniteTimes
 pub mod FirstReason
 pub mod FirstVoids
 pub mod Theorems
+pub mod VoidStations

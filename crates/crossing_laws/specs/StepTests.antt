@@ -46,9 +46,9 @@ pub data NoneApplies : List Test → Type 0 where
 
 -- ---- the numbers of the steps
 -- Whether a root is refused.
-unfoldable pub isRefused : Root → Bool
-isRefused (Value r) = false
-isRefused Refused = true
+unfoldable pub rootRefused : Root → Bool
+rootRefused (Value r) = false
+rootRefused Refused = true
 
 -- The number of a root. A refused root counts as a NaN.
 unfoldable pub rootNumber : Root → Float
@@ -103,7 +103,7 @@ rangeTest L k revolutions = record { reason = OutsideRange; applies = outsideRan
 
 -- A root that can be refused.
 unfoldable pub rootTest : Root → Test
-rootTest root = record { reason = RefusedRoot; applies = isRefused root }
+rootTest root = record { reason = RefusedRoot; applies = rootRefused root }
 
 -- A divisor that can be zero.
 unfoldable pub divisorTest : Float → Test

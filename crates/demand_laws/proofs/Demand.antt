@@ -27,6 +27,7 @@ use Rattle.entrance.proofs.Table.{Rising, none, more, UpTo, above, first-is, is
 use Rattle.entrance.proofs.Table.{accepted-room, only-ten}
 use Rattle.bound_laws.proofs.Past.{past-bounds}
 use Rattle.stations.specs.Sides.{isUnknown}
+use Rattle.crossing_laws.specs.FirstVoid.{IsFirstVoidStation}
 use Rattle.crossing_laws.specs.Listed.{Listed}
 use Rattle.crossing_laws.proofs.Corners.{no-place}
 use Rattle.bisection.specs.Pairs.{crosses}
@@ -40,12 +41,13 @@ use Rattle.solver.specs.Crossed.{searchOf, sidesOf, gridOf, lastPlace, seenOf, 
 use Rattle.solver.specs.Table.{anyVoid, allFinite, lateChecks}
 use Rattle.solver.specs.Solve.{Solved, lateRefusal, outcomeFor, bufferAfter, settledOf, solvedAfter, solveOf, outcomeNumber}
 use Rattle.demand_laws.specs.Demand.{problemFrom, tableOf, rowOf, HasAnswer, IsRefused, Demand1, Past, IsCrossing, pairsOf, entryAt}
-use Rattle.demand_laws.specs.Demand.{FiniteAll, FiniteNot, TimedAll, VoidSome, FirstVoid, NonePair, Pairs, Answer, Demand3}
+use Rattle.demand_laws.specs.Demand.{FiniteAll, FiniteNot, TimedAll, VoidSome, NonePair, Pairs, Answer, Demand3}
 use Rattle.demand_laws.specs.Demand.{InDomain}
 use Rattle.solver.proofs.Numbering.{rows, rows-are, report-agrees, untouched}
 use Rattle.sweep.specs.declared.walks.VoidStation.{VoidStation}
 use Rattle.sweep.specs.declared.walks.Walk.{Walk}
 use Rattle.sweep.specs.declared.walks.Walk.the-variants.{AllTimed, SomeVoid, NinthFound}
+use Rattle.question_record.proofs.Recorded.{refusals-apart}
 use Rattle.demand_laws.proofs.VoidStations.{named-void, station-seen, first-void}
 use Rattle.demand_laws.proofs.RowFacts.{is-none, is-eleven, is-twelve, is-thirteen, is-fourteen, only-four, first-append}
 use Rattle.little_endian.proofs.Laid.{laid}
@@ -180,6 +182,23 @@ module _ (s b : List ℕ) where
       let late-one : lateRefusal voidNumber (seenOf p) ≡ RefusedVoid v = sym (outcome-is ∙ ap outcomeAt (void-number v e)) ∙ e in
       station-seen voidNumber (seenOf p) v late-one
 
+  -- A refusal without a station has another number than 12: the report of a problem that gets 12 names a station.
+  late-twelve : N ≡ voidNumber → firstOf (lateChecks p) ≡ voidNumber
+  late-twelve e = by (eqb (firstOf entrance) 0) refl (sym table-first ∙ e)
+    where
+      by : (t : Bool) → eqb (firstOf entrance) 0 ≡ t → cond t (firstOf (lateChecks p)) (firstOf entrance) ≡ voidNumber →
+          firstOf (lateChecks p) ≡ voidNumber
+      by true z f = f
+      by false z f = absurd (not-void z f)
+
+  pub plain-other : (n : ℕ) → solveOf s b .outcome ≡ Refused n → n ≡ voidNumber → ⊥
+  plain-other n e z =
+      let twelve : N ≡ voidNumber = sym number-is ∙ ap outcomeNumber e ∙ z in
+      let row = sym (rows-are p) ∙ late-twelve twelve in
+      let void = is-twelve (eqb (length (pairsOf p)) 0) (anyVoid p) (ltb 8 (length (pairsOf p))) (allFinite p) row .1 in
+      let v = named-void (report-agrees p) void in
+      refusals-apart (sym (outcome-is ∙ ap outcomeAt twelve ∙ ap (lateRefusal voidNumber) (v .1)) ∙ e)
+
   -- ---- demand 1
   pub demand-1 : Demand1 s b
   unfolding rowOf
@@ -274,7 +293,7 @@ module _ (s b : List ℕ) where
         let v = named-void (report-agrees p) void in
         (v .0, outcome-is ∙ ap outcomeAt n ∙ ap (lateRefusal voidNumber) (v .1))
 
-    the-first : (v : VoidStation) → solveOf s b .outcome ≡ RefusedVoid v → IsRefused s b 12 × FirstVoid p v
+    the-first : (v : VoidStation) → solveOf s b .outcome ≡ RefusedVoid v → IsRefused s b 12 × IsFirstVoidStation (searchOf p) v
     the-first v e = (when-refused 12 (lit< tt) (void-number v e), first-void p v (void-seen v e))
 
     finite-all : allFinite p ≡ true → FiniteAll p

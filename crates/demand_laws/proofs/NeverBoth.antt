@@ -9,12 +9,12 @@ use lib.ListN.{length, drop}
 use lib.Seq.{drop-append-seam}
 use Rattle.question_record.specs.Record.{refusalFor, voidRefusalFor, recordOf, Output, outputOf}
 use Rattle.little_endian.specs.Bytes.{AreBytes, written}
-use Rattle.records.specs.Layout.{JOB, REVISION, refusalSize, voidRefusalSize, answerRoom}
+use Rattle.records.specs.Layout.{JOB, REVISION, headSize, refusalSize, voidRefusalSize, voidNumber, answerRoom}
 use Rattle.records.specs.Ranges.{RefusalHeld}
 use Rattle.records.specs.Records.{refusalOf, refusalBytes}
 use Rattle.records.specs.declared.Refusal.{Refusal}
 use Rattle.records.proofs.RoundTrip.{refusal-back}
-use Rattle.records.proofs.Sizes.{refusal-length, refusal-room}
+use Rattle.records.proofs.Sizes.{refusal-length, refusal-room, other-refusal-size}
 use Rattle.entrance.specs.Judge.{judgeOf}
 use Rattle.entrance.specs.declared.Judged.{Judged}
 use Rattle.entrance.specs.declared.Judged.the-variants.{Refused, Accepted}
@@ -23,8 +23,8 @@ use Rattle.solver.specs.declared.Outcome.the-variants.{Refused, RefusedVoid, An
 use Rattle.solver.specs.Solve.{Solved, settledOf, solvedAfter, solveOf, outcomeNumber}
 use Rattle.sweep.specs.declared.walks.VoidStation.{VoidStation}
 use Rattle.demand_laws.specs.Demand.{problemFrom, IsRefused, Recording}
-use Rattle.demand_laws.proofs.Demand.{void-seen}
-use Rattle.demand_laws.proofs.VoidStations.{j-fits}
+use Rattle.demand_laws.proofs.Demand.{void-seen, plain-other}
+use Rattle.demand_laws.proofs.VoidStations.{station-fits}
 use Rattle.hypergeometric.proofs.ReasonNumbers.{number-most}
 use Rattle.little_endian.proofs.Numbers.{number-lt}
 use Rattle.question_record.proofs.Recorded.{room-same, when-answered, when-refused, when-void, has-room, number-for, record-short}
@@ -104,13 +104,15 @@ module _ (s : List ℕ) where
           ∙ ap (λ (m : ℕ). refusalBytes r ++ drop m b) long
 
     refused-record : (n : ℕ) → solveOf s b .outcome ≡ Refused n →
-        (outputOf s b .size ≡ refusalSize n) × (outputOf s b .buffer ≡ refusalBytes (refusalFor s n) ++ drop (refusalSize n) b)
+        (n ≡ voidNumber → ⊥) × (outputOf s b .size ≡ headSize) × (outputOf s b .buffer ≡ refusalBytes (refusalFor s n) ++ drop headSize b)
     refused-record n e =
         let r = refusalFor s n in
         let bytes = when-refused s b h n e .1 in
-        let number = ap (λ (m : ℕ). refusalSize m) (number-for s n) in (
-          refusal-sized r bytes ∙ number,
-          refusal-left r bytes ∙ ap (λ (m : ℕ). refusalBytes r ++ drop m b) number,
+        let other = plain-other s b n e in
+        let size : refusalSize (r .number) ≡ headSize = ap (λ (m : ℕ). refusalSize m) (number-for s n) ∙ other-refusal-size n other in (
+          other,
+          refusal-sized r bytes ∙ size,
+          refusal-left r bytes ∙ ap (λ (m : ℕ). refusalBytes r ++ drop m b) size,
         )
 
     void-record : (v : VoidStation) → solveOf s b .outcome ≡ RefusedVoid v →
@@ -128,7 +130,7 @@ module _ (s : List ℕ) where
           job = number-lt (JOB .width) (JOB .offset) s bytes;
           revision = number-lt (REVISION .width) (REVISION .offset) s bytes;
           number = omega arith;
-          station = j-fits (problemFrom s) v (void-seen s b v e);
+          station = station-fits (problemFrom s) v (void-seen s b v e);
           reason = omega (arith, number-most (v .reason));
           absent = λ other. absurd (other refl);
         }

@@ -5,7 +5,7 @@ use mathlib.Core.Bool.{Bool, true, false, cond, not}
 use mathlib.Core.Logic.{_⊎_}
 use mathlib.Core.List.{List, _++_, map}
 use Prim.Native.Nat.{ℕ, _+_, _-_, _^_, _≤_, _<_}
-use lib.IntN.{pos, _+ℤ_, _*ℤ_}
+use lib.IntN.{pos, _+ℤ_}
 use lib.Ieee.{Float}
 use lib.ListN.{length, getD, take, drop}
 use Rattle.question_record.specs.Record.{refusalFor, voidRefusalFor, recordOf, outputOf}
@@ -13,25 +13,25 @@ use Rattle.float64.specs.Notation.{_≺_, 0F, 1F}
 use Rattle.float64.specs.Value.{finiteOf, magnitudeOf}
 use Rattle.geometry.specs.Triangles.{shapeOf}
 use Rattle.little_endian.specs.Bytes.{AreBytes}
-use Rattle.records.specs.Layout.{entrySize, answerSize, answerRoom, refusalSize, voidRefusalSize}
+use Rattle.records.specs.Layout.{entrySize, answerSize, answerRoom, headSize, voidRefusalSize, voidNumber}
 use Rattle.records.specs.Records.{questionOf, headOf, answerHeadOf, entryOf, entryBytes, answerBytes, refusalOf, refusalBytes}
 use Rattle.records.specs.declared.Entry.{Entry}
 use Rattle.entrance.specs.Judge.{Check, checks, longWay, problemOf}
 use Rattle.entrance.specs.Table.{appliesIn, conditionOf, First, Exactly}
 use Rattle.entrance.specs.declared.Problem.{Problem}
 use Rattle.hypergeometric.specs.declared.reasons.Reason.{Reason}
-use Rattle.flight_time.specs.Steps.{stationSpacing}
 use Rattle.flight_time.specs.declared.Place.the-variants.{Timed, Void}
 use Rattle.bisection.specs.Pairs.{bracketOf}
 use Rattle.sweep.specs.Crossings.{crossings}
 use Rattle.sweep.specs.declared.walks.VoidStation.{VoidStation}
 use Rattle.crossing_laws.specs.Brackets.{IsBracket}
+use Rattle.crossing_laws.specs.FirstVoid.{IsFirstVoidStation}
 use Rattle.crossing_laws.specs.Listed.{Listed, Rising}
 use Rattle.bisection.specs.declared.Bracket.{Bracket}
 use Rattle.velocity.specs.Chosen.{upperChosen}
 use Rattle.solver.specs.declared.Outcome.the-variants.{Refused, RefusedVoid, Answered}
 use Rattle.entries.specs.Entries.{placeOf, velocitiesAt, endNumber, entryFor, entryFinite}
-use Rattle.solver.specs.Crossed.{sidesOf, gridOf, lastPlace}
+use Rattle.solver.specs.Crossed.{searchOf, sidesOf, gridOf, lastPlace}
 use Rattle.solver.specs.Table.{lateChecks}
 use Rattle.solver.specs.Solve.{solveOf, outcomeNumber}
 
@@ -121,16 +121,6 @@ TimedAll p = (i : ℕ) → i ≤ lastPlace p → (t : Float) × (placeOf p (grid
 abbrev pub VoidSome : Problem → Type 0
 VoidSome p = (i : ℕ) × ((i ≤ lastPlace p) × ((reason : Reason) × (placeOf p (gridOf p .place i) ≡ Void reason)))
 
--- The station that comes with number 12 is the first void place of the grid.
-pub record FirstVoid (p : Problem) (station : VoidStation) : Type 0 where
-  -- It is place `index` of the grid, at k = j·2^20.
-  pub index : ℕ
-  pub within : index ≤ lastPlace p
-  pub placeIs : gridOf p .place index ≡ station .j *ℤ pos stationSpacing
-  -- It is void for the reason that comes with it, and every lower place has a time.
-  pub voidIs : placeOf p (gridOf p .place index) ≡ Void (station .reason)
-  pub lower : (i : ℕ) → i < index → (t : Float) × (placeOf p (gridOf p .place i) ≡ Timed t)
-
 -- There is no crossing.
 abbrev pub NonePair : Problem → Type 0
 NonePair p = (i : ℕ) → IsCrossing p i → ⊥
@@ -191,9 +181,11 @@ pub record Demand3 (s b : List ℕ) : Type 0 where
   pub eleven : Exactly (IsRefused s b 11) (TimedAll (problemFrom s) × NonePair (problemFrom s))
   -- Any other refusal is 12, 13 or 14, each exactly if 01's table says so.
   pub twelve : Exactly (IsRefused s b 12) (VoidSome (problemFrom s) × NonePair (problemFrom s))
-  -- Number 12 comes with the first void station and its reason, and no other number does.
+  -- Number 12 comes with the first void station: it is void for the reason that comes with it, and every lower station has a time. No
+  -- other number comes with a station.
   pub station : IsRefused s b 12 → (v : VoidStation) × (solveOf s b .outcome ≡ RefusedVoid v)
-  pub firstVoid : (v : VoidStation) → solveOf s b .outcome ≡ RefusedVoid v → IsRefused s b 12 × FirstVoid (problemFrom s) v
+  pub firstVoid : (v : VoidStation) → solveOf s b .outcome ≡ RefusedVoid v →
+      IsRefused s b 12 × IsFirstVoidStation (searchOf (problemFrom s)) v
   pub thirteen : Exactly (IsRefused s b 13) (8 < length (pairsOf (problemFrom s)))
   pub fourteen : Exactly (IsRefused s b 14)
       ((1 ≤ length (pairsOf (problemFrom s))) × (length (pairsOf (problemFrom s)) ≤ 8) × FiniteNot (problemFrom s))
@@ -206,8 +198,9 @@ pub record Demand3 (s b : List ℕ) : Type 0 where
 pub record Recording (s b : List ℕ) : Type 0 where
   pub answered : (n : ℕ) → solveOf s b .outcome ≡ Answered n →
       (outputOf s b .size ≡ answerSize n) × (outputOf s b .buffer ≡ solveOf s b .buffer)
+  -- A refusal without a station has another number than 12, and its record is the head alone.
   pub refused : (n : ℕ) → solveOf s b .outcome ≡ Refused n →
-      (outputOf s b .size ≡ refusalSize n) × (outputOf s b .buffer ≡ refusalBytes (refusalFor s n) ++ drop (refusalSize n) b)
+      (n ≡ voidNumber → ⊥) × (outputOf s b .size ≡ headSize) × (outputOf s b .buffer ≡ refusalBytes (refusalFor s n) ++ drop headSize b)
   -- The record of number 12 has the station and the reason, and reading it gives them back. The latter requires that s consists of bytes.
   pub void : (v : VoidStation) → solveOf s b .outcome ≡ RefusedVoid v →
       (outputOf s b .size ≡ voidRefusalSize) × (outputOf s b .buffer ≡ refusalBytes (voidRefusalFor s v) ++ drop voidRefusalSize b)

@@ -25,12 +25,12 @@ refusalFor question n = cond (eqb n 1) (refusalWith 0 0 n) (refusalWith (jobOf q
 
 -- The refusal of a question with number 12. It also has the j of the first void station, and the number of the reason (02, A4).
 unfoldable pub voidRefusalFor : List ℕ → VoidStation → Refusal
-voidRefusalFor question void = record {
+voidRefusalFor question station = record {
   job = jobOf question;
   revision = revisionOf question;
   number = voidNumber;
-  station = void .j;
-  reason = reasonNumber (void .reason);
+  station = station .j;
+  reason = reasonNumber (station .reason);
 }
 
 -- The record of a question whose problem has the given outcome.

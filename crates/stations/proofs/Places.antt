@@ -64,6 +64,11 @@ pub j-is : (i : ℕ) → jOf (stationOf i) ≡ pos i +ℤ negℤ (pos stationsBe
 unfolding jOf stationOf
 j-is i = quot-times (pos i +ℤ negℤ (pos stationsBelow))
 
+-- The j of the place j·2^20.
+pub j-of-place : (j : ℤ) → jOf (j *ℤ pos stationSpacing) ≡ j
+unfolding jOf
+j-of-place j = quot-times j
+
 -- A station's place is its j times the spacing.
 pub place-of-j : (i : ℕ) → stationOf i ≡ jOf (stationOf i) *ℤ pos stationSpacing
 unfolding stationOf

@@ -18,7 +18,7 @@ lastJ revolutions = cond (eqb revolutions 0) 16384 4095
 unfoldable pub stationOf : ℕ → ℤ
 stationOf i = (pos i -ℤ pos stationsBelow) *ℤ pos stationSpacing
 
--- The j of the station at place k, which is j·2^20.
+-- The j of the station at place k, which is j·2^20. At a place that is no station, the quotient is rounded toward zero.
 unfoldable pub jOf : ℤ → ℤ
 jOf k = quotZ k (pos stationSpacing)
 
