@@ -1,28 +1,39 @@
--- Reasons that the prover computes at single steps (`steps-are-void`): no L, k and M are known for which the whole of the steps gives a
--- result that is not finite, or ends in step 7. And what the sweep reports for L = 1: the first station, j = −4095, for reason 1
--- (`lambda-one`), without and with whole revolutions.
-use mathlib.Core.Path.{_≡_, refl}
+-- Reasons that the prover computes at single steps (`not-finite`, `steps-are-void`): no L, k and M are known for which the steps together
+-- give a result that is not finite, or for which step 7 makes the place void. And what the sweep reports: for L = 1 the first station, for
+-- reason 1 (`lambda-one`), and near L = −1 the second station, for reason 2 or 3 (`second-root`, `second-divisor`).
+use mathlib.Core.Path.{_≡_, refl, ap, _∙_}
 use mathlib.Core.Logic.{inl}
 use mathlib.Core.List.{List, [], _∷_, map}
-use Prim.Native.Nat.{ℕ}
-use lib.IntN.{pos, negℤ}
-use lib.Ieee.{Float, add, sub, mul, div, neg, lt, eq, ofBits, ofInt}
+use Prim.Native.Nat.{ℕ, _≤_}
+use native.Mathlib.Omega.{arith}
+use lib.IntN.{ℤ, pos, negℤ, _*ℤ_}
+use lib.ListN.{length}
+use lib.Ieee.{Float, nan, add, sub, mul, div, neg, lt, eq, ofBits, ofInt}
 use Rattle.float64.specs.Notation.{bits, 0F, 1F}
 use Rattle.float64.specs.Value.{magnitudeOf, finiteOf}
 use Rattle.float64.specs.Root.{rootOf}
 use Rattle.hypergeometric.specs.Reasons.{reasonNumber}
-use Rattle.hypergeometric.specs.Steps.{backOf}
+use Rattle.hypergeometric.specs.Steps.{yOf, etaOf, c1Of, nextC, halfAnglesOf, ratioOf, seriesFrom, seriesOf, s4Of, backOf, gOf}
+use Rattle.hypergeometric.specs.declared.reasons.Reason.{Reason}
 use Rattle.hypergeometric.specs.declared.reasons.Reason.the-variants.{OutsideRange, RefusedRoot, ZeroDivisor, NotFinite}
 use Rattle.hypergeometric.specs.declared.results.StepValue.{StepValue}
 use Rattle.hypergeometric.specs.declared.results.StepValue.the-variants.{Void}
-use Rattle.flight_time.specs.Steps.{withRevolutions}
-use Rattle.flight_time.specs.Time.{ifFinite}
+use Rattle.flight_time.specs.Steps.{stationSpacing, outsideRange, xOf, uOf, directOf, withRevolutions}
+use Rattle.flight_time.specs.Time.{ifFinite, timeOf}
 use Rattle.flight_time.specs.declared.Place.{Place}
-use Rattle.flight_time.specs.declared.Place.the-variants.{Void}
+use Rattle.flight_time.specs.declared.Place.the-variants.{Timed, Void}
 use Rattle.stations.specs.declared.search.Search.{Search}
-use Rattle.sweep.specs.Crossings.{sweepFor}
+use Rattle.stations.specs.Sides.{sideAt}
+use Rattle.stations.specs.SearchGrid.{gridFor, lastFor}
+use Rattle.stations.specs.Stations.{stationOf, lastOf}
+use Rattle.stations.proofs.Places.{j-is, place-of-j}
+use Rattle.sweep.specs.Crossings.{crossings, sweepFor}
+use Rattle.sweep.specs.declared.walks.VoidStation.{VoidStation}
+use Rattle.sweep.proofs.Counts.{counted}
 use Rattle.sweep.specs.declared.walks.Walk.the-variants.{SomeVoid}
-use Rattle.crossing_laws.proofs.AnyTriangle.{void-from-the-first}
+use Rattle.crossing_laws.proofs.AnyTriangle.{void-from-the-first, nothing-at-nan}
+use Rattle.crossing_laws.proofs.VoidStations.{station-exactly}
+use Rattle.crossing_laws.specs.FirstVoid.{IsFirstVoidStation}
 use Rattle.closed_case_laws.specs.Given.{ONE, withLambda}
 
 -- ---- the last test: positive and negative infinity, and a NaN
@@ -48,11 +59,48 @@ numbers-are = refl
 
 -- ---- the sweep at L = 1
 
-abbrev pub at-one : ℕ → Float → Search
-at-one revolutions wanted = record { triangle = withLambda ONE; revolutions = revolutions; wanted = wanted }
+-- The search for a wanted time in the triangle whose L has the given bits.
+abbrev pub searchAt : ℕ → ℕ → Float → Search
+searchAt L revolutions wanted = record { triangle = withLambda L; revolutions = revolutions; wanted = wanted }
 
 pub lambda-one : (revolutions : ℕ) (wanted : Float) →
-    (sweepFor (at-one revolutions wanted) .count ≡ 0)
-    × (sweepFor (at-one revolutions wanted) .walk ≡ SomeVoid (record { j = negℤ (pos 4095); reason = OutsideRange }))
+    (sweepFor (searchAt ONE revolutions wanted) .count ≡ 0)
+    × (sweepFor (searchAt ONE revolutions wanted) .walk ≡ SomeVoid (record { j = negℤ (pos 4095); reason = OutsideRange }))
 unfolding withLambda magnitudeOf lt ofBits
-lambda-one revolutions wanted = void-from-the-first (at-one revolutions wanted) (inl refl)
+lambda-one revolutions wanted = void-from-the-first (searchAt ONE revolutions wanted) (inl refl)
+
+-- ---- the sweep near L = −1: the first station has a time, and the second, j = −4094, is void for reason 2 or for reason 3
+
+-- With a NaN as the wanted time no pair crosses, so the sweep names its first void station.
+second-named : (L first : ℕ) (reason : Reason) →
+    timeOf (withLambda L) (stationOf 0) 0 ≡ Timed (bits first) → timeOf (withLambda L) (stationOf 1) 0 ≡ Void reason →
+    sweepFor (searchAt L 0 nan) .walk ≡ SomeVoid (record { j = negℤ (pos 4094); reason = reason })
+unfolding gridFor lastFor lastOf
+second-named L first reason timed void =
+    let search = searchAt L 0 nan in
+    let none = nothing-at-nan search (gridFor search) (lastFor search) refl in
+    let few : length (crossings (sideAt search) (gridFor search) (lastFor search)) ≤ 8 =
+    omega (arith, none, counted (sideAt search) (gridFor search) (lastFor search)) in
+    let station : VoidStation = record { j = negℤ (pos 4094); reason = reason } in
+    let is-first : IsFirstVoidStation search station =
+    record {
+      index = 1;
+      within = omega arith;
+      placeIs = second-place;
+      voidIs = void;
+      lower = λ i h. let zero : i ≡ 0 = omega (arith, h) in (bits first, rw zero timed);
+    } in
+    station-exactly search station .1 (few, is-first)
+  where
+    second-place : stationOf 1 ≡ negℤ (pos 4094) *ℤ pos stationSpacing
+    second-place = place-of-j 1 ∙ ap (λ (j : ℤ). j *ℤ pos stationSpacing) (j-is 1)
+
+pub second-root : sweepFor (searchAt 0xBFEF_FFFF_FFFF_FEFF 0 nan) .walk ≡ SomeVoid (record { j = negℤ (pos 4094); reason = RefusedRoot })
+unfolding withLambda stationOf timeOf outsideRange xOf uOf yOf etaOf c1Of nextC halfAnglesOf ratioOf seriesFrom seriesOf s4Of backOf gOf
+    directOf withRevolutions magnitudeOf finiteOf rootOf add sub mul div neg lt eq ofBits ofInt
+second-root = second-named 0xBFEF_FFFF_FFFF_FEFF 0xBD2F_55C2_423C_84B0 RefusedRoot refl refl
+
+pub second-divisor : sweepFor (searchAt 0xBFEF_FFFF_FFD9_9CCD 0 nan) .walk ≡ SomeVoid (record { j = negℤ (pos 4094); reason = ZeroDivisor })
+unfolding withLambda stationOf timeOf outsideRange xOf uOf yOf etaOf c1Of nextC halfAnglesOf ratioOf seriesFrom seriesOf s4Of backOf gOf
+    directOf withRevolutions magnitudeOf finiteOf rootOf add sub mul div neg lt eq ofBits ofInt
+second-divisor = second-named 0xBFEF_FFFF_FFD9_9CCD 0x3F1A_3A37_D421_2F16 ZeroDivisor refl refl

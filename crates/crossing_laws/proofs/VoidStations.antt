@@ -1,6 +1,6 @@
--- The station that a sweep names is the first void station of the search, stated over times: it is at k = j·2^20, it is void for the named
--- reason, and every lower station has a time (`station-exactly`). Its j fits in an i32 (`j-fits`). This follows from `void-exactly`, and from
--- the grid of a search, which is that of the stations.
+-- The station that a sweep names is the first void station of the search, stated over times: it is at k = j·2^20, it is void for the
+-- named reason, and every lower station has a time (`station-exactly`). Its j fits in an i32 (`j-fits`). This follows from
+-- `void-exactly`, and from the grid of a search, which is that of the stations.
 use mathlib.Core.Path.{_≡_, refl, sym, ap, _∙_}
 use mathlib.Core.Bool.{Bool, true, false, cond}
 use mathlib.Core.Logic.{_↔_}

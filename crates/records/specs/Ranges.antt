@@ -39,7 +39,7 @@ pub record HeadHeld (h : Head) : Type 0 where
   pub revision : h .revision < 2 ^ 32
   pub number : h .number < 2 ^ 16
 
--- A refusal with another number than 12 has no field for station and reason, so both are 0.
+-- A refusal with a number other than 12 has no field for station and reason, so both are 0.
 pub record RefusalHeld (r : Refusal) : Type 0 where
   pub job : r .job < 2 ^ 32
   pub revision : r .revision < 2 ^ 32

@@ -94,7 +94,7 @@ answerHeadOf job revision n = record {
 abbrev pub refusalWith : ℕ → ℕ → ℕ → Refusal
 refusalWith job revision number = record { job = job; revision = revision; number = number; station = pos 0; reason = 0 }
 
--- The refusal that the bytes hold. Station and reason are 0 if the number is another than 12.
+-- The refusal that the bytes hold, if they are well formed. Station and reason are read if the number is 12, and are 0 otherwise.
 unfoldable pub refusalOf : List ℕ → Refusal
 refusalOf s =
     let number = valueOf NUMBER s in

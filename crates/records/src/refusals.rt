@@ -45,7 +45,8 @@ pub fn refusal_with(job: u32, revision: u32, number: u16) -> Refusal
     }
 }
 
-// Returns the refusal at the start of the bytes. A byte past the end counts as 0.
+// Returns the refusal at the start of the bytes. A byte past the end counts as 0. The crate `outcomes` tests whether the bytes are a
+// well-formed refusal; this function does not.
 pub fn read_refusal(s: &[u8]) -> Refusal
     ensures { λ r. ⌜ r ≡ refusalOf (now (s .entry)) ⌝ }
 {

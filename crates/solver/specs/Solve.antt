@@ -19,7 +19,7 @@ use Rattle.solver.specs.Crossed.{seenOf, entriesOf}
 use Rattle.solver.specs.Table.{lateChecks}
 
 -- The refusal with a number from 11 to 14, given the report about the times at all places. Number 12 also returns the first void place
--- and the reason why it is void (02, A4).
+-- and the reason why it is void (02, A4). A problem that gets 12 has a void place, so its report is `SomeVoid`.
 abbrev pub lateRefusal : ℕ → Walk → Outcome
 lateRefusal n AllTimed = Refused n
 lateRefusal n (SomeVoid station) = cond (eqb n voidNumber) (RefusedVoid station) (Refused n)

@@ -17,7 +17,8 @@ voidAt Below k = AllTimed
 voidAt NotBelow k = AllTimed
 voidAt (Unknown reason) k = SomeVoid (record { j = jOf k; reason = reason })
 
--- The report about some places and the later ones together: a void place among the former comes first.
+-- The report about some places and the later ones together: a void place among the former comes first. The last case never arises,
+-- because a report about places does not speak of crossings.
 abbrev pub orLater : Walk → Walk → Walk
 orLater AllTimed later = later
 orLater (SomeVoid station) later = SomeVoid station

@@ -20,7 +20,8 @@ use walks::report_with;
 use walks::walk_of;
 
 // The result of a sweep: the brackets of the first eight crossings, the lowest first. The list has
-// eight elements. The first `count` of them are used, and the others are zeros.
+// eight elements. The first `count` of them are used, and the others are zeros. `walk` is the report
+// about the times at the stations.
 pub struct Crossings {
     pub list: [Bracket; 8],
     pub count: usize,
