@@ -39,11 +39,11 @@ mod tests {
         }
     }
 
-    /// The words are those of the table in docs/USING.md.
+    /// The words are those of the table in docs/FORMAT.md.
     #[test]
     fn each_reason_has_its_words() {
-        let using = include_str!("../../docs/USING.md");
-        let rows = using.lines().skip_while(|line| !line.starts_with("| reason |"));
+        let format = include_str!("../../docs/FORMAT.md");
+        let rows = format.lines().skip_while(|line| !line.starts_with("| reason |"));
         let rows: Vec<&str> = rows.skip(2).take_while(|line| line.starts_with('|')).collect();
         let expected = (1..=4).map(|number| format!("| {number} | {} |", Reason(number).words()));
         assert_eq!(rows, expected.collect::<Vec<_>>());
