@@ -27,8 +27,8 @@ abbrev pub stationsAfter : Judged → ℕ
 stationsAfter (Refused n) = 0
 stationsAfter (Accepted p) = lastStation p + 1
 
--- The bits of the time at a place, or those of its reason if the place is void, given the verdict of the entrance checks. A refused
--- question has no time anywhere.
+-- The bits of the time at a place, given the verdict of the entrance checks. If the place is void, they are the bits of a NaN that carry
+-- the number of the reason (`placeBits`). A refused question has no time anywhere.
 abbrev pub timeAfter : Judged → ℤ → ℕ
 timeAfter (Refused n) k = refusedBits
 timeAfter (Accepted p) k = placeBits (placeOf p k)

@@ -32,7 +32,8 @@ pub extern "C" fn lambert_stations(question: &[u8]) -> u64
     }
 }
 
-// Returns the place k of station i, counted from 0, for any i. See `lambert_stations` for how many stations a question has.
+// Returns the place k of the station with index i, counted from 0, for any i. This station has j = i - 4095 and k = j * 2^20. See
+// `lambert_stations` for how many stations a question has.
 #[no_mangle]
 pub extern "C" fn lambert_station(i: u16) -> i64
     ensures { λ r. ⌜ r ≡ stationOf i ⌝ }
