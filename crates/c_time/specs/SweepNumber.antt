@@ -15,8 +15,8 @@ use Rattle.c_time.specs.TimeBits.{withLambda}
 abbrev pub stationNumber : VoidStation → ℕ
 stationNumber station = 2 ^ 8 * reasonNumber (station .reason) + 2 ^ 32 * signed32Bits (station .j)
 
--- The number that says how the walk ended. Bit 4 is set if some station is void, and bit 5 if there is a ninth crossing. Bits 0 to 3 are
--- free for the count of listed crossings, which is at most eight.
+-- The number that says how the walk ended. Bit 4 is set if there is no ninth crossing and some station is void, and bit 5 if there is a
+-- ninth crossing. Bits 0 to 3 are free for the count of listed crossings, which is at most eight.
 abbrev pub walkNumber : Walk → ℕ
 walkNumber AllTimed = 0
 walkNumber (SomeVoid station) = 16 + stationNumber station

@@ -1,6 +1,6 @@
-// The time at a place, and the number of crossings of a sweep. Every f64 is passed and returned as
-// its 64 bits. This is for programs in other languages and for comparisons with the independent
-// program.
+// The time at a place, and the result of a sweep: the number of its crossings, how it ended, and the
+// first void station with its reason. Every f64 is passed and returned as its 64 bits. This is for
+// programs in other languages and for comparisons with the independent program.
 ghost use mathlib.Core.Path.{_≡_};
 ghost use Prim.Native.Nat.{_-_, _^_, _<_};
 ghost use Rattle.c_time.specs.SweepNumber.{stationNumber, walkNumber, sweepNumberOf};
