@@ -1,4 +1,4 @@
-// Recognizes outcomes: decides whether bytes are a well-formed answer or refusal, or malformed (02, A1).
+// Recognizes outcomes: decides whether bytes are a well-formed answer or refusal, or malformed (02, A1 and A4).
 ghost use mathlib.Core.Path.{_≡_};
 ghost use Rattle.outcomes.specs.Outcomes.{isSized, isRefusal, allNameAnEnd, isAnswer, isOutcome};
 use records::ANSWER_KIND;

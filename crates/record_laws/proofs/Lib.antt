@@ -2,3 +2,4 @@ pub mod VoidStations
 pub mod Forms
 pub mod Outcome
 pub mod Jobs
+pub mod RefusalSizes

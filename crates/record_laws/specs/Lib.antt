@@ -1,1 +1,2 @@
 pub mod RecordForm
+pub mod RefusalSizes
