@@ -1,8 +1,10 @@
--- Posts with concrete bytes. First 01's worked refusal is posted on the empty board (`worked-taken`), then another record of
--- the same job and revision (`another-clashes`), or a refusal 12, which is longer (`void-taken`). A refusal 12 of the shorter
--- form and a refusal 11 of the longer form are malformed (`short-12-refused`, `long-11-refused`), and the former makes bytes that
--- hold it no board (`short-12-held`). Each theorem gives the result and every byte of the board. A board is too long to compute
--- with, so `next-board` computes with what it holds.
+-- Posts with concrete bytes. First 01's worked refusal is posted on the empty board (`worked-taken`), then another record of the same job
+-- and revision (`another-clashes`), or a refusal 12 of another job, which is longer (`void-taken`). These three theorems give the result,
+-- every byte of the board after the call, and what it holds. `clash-is` and `void-is` say that the definitions give the bytes of the
+-- conflict and of the refusal 12. One refusal 12 of the shorter form (`short-12-refused`) and one refusal 11 of the longer form
+-- (`long-11-refused`) are refused with B1 by every board, which keeps its bytes. The bytes that hold this short refusal 12 alone are not a
+-- board: every post to them is refused with B0 (`short-12-held`). For refusals with any other bytes see `RefusalSizes` of `record_laws`. A
+-- board is too long to compute with, so `next-board` computes with what it holds.
 use mathlib.Core.Path.{_≡_, refl, _∙_}
 use mathlib.Core.Bool.{Bool, true, false, _&&_, and-false}
 use mathlib.Core.List.{List, [], _∷_, _++_, append-assoc}
