@@ -1,6 +1,7 @@
 -- Reasons that the prover computes at single steps (`not-finite`, `steps-are-void`): no L, k and M are known for which the steps together
 -- give a result that is not finite, or for which step 7 makes the place void. And what the sweep reports: for L = 1 the first station, for
--- reason 1 (`lambda-one`), and near L = −1 the second station, for reason 2 or 3 (`second-root`, `second-divisor`).
+-- reason 1 (`lambda-one`), and near L = −1 the second station, for reason 2 or 3 (`second-root`, `second-divisor`). And the numbers that
+-- hosts in other languages get (`bits-are`, `report-is`, `refusal-12-is`).
 use mathlib.Core.Path.{_≡_, refl, ap, _∙_}
 use mathlib.Core.Logic.{inl}
 use mathlib.Core.List.{List, [], _∷_, map}
@@ -19,7 +20,7 @@ use Rattle.hypergeometric.specs.declared.reasons.Reason.the-variants.{OutsideRa
 use Rattle.hypergeometric.specs.declared.results.StepValue.{StepValue}
 use Rattle.hypergeometric.specs.declared.results.StepValue.the-variants.{Void}
 use Rattle.flight_time.specs.Steps.{stationSpacing, outsideRange, xOf, uOf, directOf, withRevolutions}
-use Rattle.flight_time.specs.Time.{ifFinite, timeOf}
+use Rattle.flight_time.specs.Time.{ifFinite, timeOf, placeBits}
 use Rattle.flight_time.specs.declared.Place.{Place}
 use Rattle.flight_time.specs.declared.Place.the-variants.{Timed, Void}
 use Rattle.stations.specs.declared.search.Search.{Search}
@@ -34,6 +35,10 @@ use Rattle.sweep.specs.declared.walks.Walk.the-variants.{SomeVoid}
 use Rattle.crossing_laws.proofs.AnyTriangle.{void-from-the-first, nothing-at-nan}
 use Rattle.crossing_laws.proofs.VoidStations.{station-exactly}
 use Rattle.crossing_laws.specs.FirstVoid.{IsFirstVoidStation}
+use Rattle.little_endian.specs.Bytes.{twosComplement}
+use Rattle.solver.specs.declared.Outcome.the-variants.{RefusedVoid}
+use Rattle.c_time.specs.SweepNumber.{walkNumber}
+use Rattle.c_solver.specs.OutcomeWord.{outcomeWord}
 use Rattle.closed_case_laws.specs.Given.{ONE, withLambda}
 
 -- ---- the last test: positive and negative infinity, and a NaN
@@ -56,6 +61,25 @@ steps-are-void = refl
 pub numbers-are : map reasonNumber (OutsideRange ∷ RefusedRoot ∷ ZeroDivisor ∷ NotFinite ∷ []) ≡ 1 ∷ 2 ∷ 3 ∷ 4 ∷ []
 unfolding reasonNumber
 numbers-are = refl
+
+-- ---- reasons and stations as numbers, for hosts in other languages: the bits of a void place, a report, and a refusal 12
+
+pub bits-are : map placeBits (Void OutsideRange ∷ Void RefusedRoot ∷ Void ZeroDivisor ∷ Void NotFinite ∷ [])
+    ≡ 0x7FF8_0000_0000_0001 ∷ 0x7FF8_0000_0000_0002 ∷ 0x7FF8_0000_0000_0003 ∷ 0x7FF8_0000_0000_0004 ∷ []
+unfolding placeBits reasonNumber
+bits-are = refl
+
+-- The first station, j = −4095, with reason 1.
+abbrev pub first-outside : VoidStation
+first-outside = record { j = negℤ (pos 4095); reason = OutsideRange }
+
+pub report-is : walkNumber (SomeVoid first-outside) ≡ 0xFFFF_F001_0000_0110
+unfolding reasonNumber twosComplement
+report-is = refl
+
+pub refusal-12-is : outcomeWord (RefusedVoid first-outside) ≡ 0xFFFF_F001_0001_000C
+unfolding reasonNumber twosComplement
+refusal-12-is = refl
 
 -- ---- the sweep at L = 1
 

@@ -2,16 +2,18 @@
 -- (`never-both`): the outcome depends on the question's bytes alone, whatever the buffer held (`same-outcome`). A second call with
 -- the buffer that the first call left changes nothing. `recording` says how the record follows from the outcome.
 use mathlib.Core.Path.{_≡_, refl, sym, ap, _∙_}
+use mathlib.Core.Bool.{cond}
 use mathlib.Core.List.{List, _++_}
 use Prim.Native.Nat.{ℕ, _+_, _≤_}
 use native.Mathlib.Omega.{arith}
+use lib.Dec.{eqb}
 use lib.ListN.{length, drop}
 use lib.Seq.{drop-append-seam}
 use Rattle.question_record.specs.Record.{refusalFor, voidRefusalFor, recordOf, Output, outputOf}
 use Rattle.little_endian.specs.Bytes.{AreBytes, written}
-use Rattle.records.specs.Layout.{JOB, REVISION, headSize, refusalSize, voidRefusalSize, voidNumber, answerRoom}
+use Rattle.records.specs.Layout.{JOB, REVISION, jobOf, revisionOf, headSize, refusalSize, voidRefusalSize, voidNumber, answerRoom}
 use Rattle.records.specs.Ranges.{RefusalHeld}
-use Rattle.records.specs.Records.{refusalOf, refusalBytes}
+use Rattle.records.specs.Records.{refusalOf, refusalWith, refusalBytes}
 use Rattle.records.specs.declared.Refusal.{Refusal}
 use Rattle.records.proofs.RoundTrip.{refusal-back}
 use Rattle.records.proofs.Sizes.{refusal-length, refusal-room, other-refusal-size}
@@ -22,7 +24,7 @@ use Rattle.solver.specs.declared.Outcome.{Outcome}
 use Rattle.solver.specs.declared.Outcome.the-variants.{Refused, RefusedVoid, Answered}
 use Rattle.solver.specs.Solve.{Solved, settledOf, solvedAfter, solveOf, outcomeNumber}
 use Rattle.sweep.specs.declared.walks.VoidStation.{VoidStation}
-use Rattle.demand_laws.specs.Demand.{problemFrom, IsRefused, Recording}
+use Rattle.demand_laws.specs.Demand.{problemFrom, IsRefused, voidRefusal, Recording}
 use Rattle.demand_laws.proofs.Demand.{void-seen, plain-other}
 use Rattle.demand_laws.proofs.VoidStations.{station-fits}
 use Rattle.hypergeometric.proofs.ReasonNumbers.{number-most}
@@ -104,7 +106,9 @@ module _ (s : List ℕ) where
           ∙ ap (λ (m : ℕ). refusalBytes r ++ drop m b) long
 
     refused-record : (n : ℕ) → solveOf s b .outcome ≡ Refused n →
-        (n ≡ voidNumber → ⊥) × (outputOf s b .size ≡ headSize) × (outputOf s b .buffer ≡ refusalBytes (refusalFor s n) ++ drop headSize b)
+        let r = cond (eqb n 1) (refusalWith 0 0 n) (refusalWith (jobOf s) (revisionOf s) n) in
+        (n ≡ voidNumber → ⊥) × (outputOf s b .size ≡ headSize) × (outputOf s b .buffer ≡ refusalBytes r ++ drop headSize b)
+    unfolding refusalFor
     refused-record n e =
         let r = refusalFor s n in
         let bytes = when-refused s b h n e .1 in
@@ -116,15 +120,14 @@ module _ (s : List ℕ) where
         )
 
     void-record : (v : VoidStation) → solveOf s b .outcome ≡ RefusedVoid v →
-        (outputOf s b .size ≡ voidRefusalSize) × (outputOf s b .buffer ≡ refusalBytes (voidRefusalFor s v) ++ drop voidRefusalSize b)
+        (outputOf s b .size ≡ voidRefusalSize) × (outputOf s b .buffer ≡ refusalBytes (voidRefusal s v) ++ drop voidRefusalSize b)
     unfolding voidRefusalFor
     void-record v e =
         let bytes = when-void s b h v e .1 in
         (refusal-sized (voidRefusalFor s v) bytes, refusal-left (voidRefusalFor s v) bytes)
 
     -- The job, the revision, the station and the reason fit their fields, so reading the record gives them back.
-    void-held : (v : VoidStation) → solveOf s b .outcome ≡ RefusedVoid v → AreBytes s → RefusalHeld (voidRefusalFor s v)
-    unfolding voidRefusalFor
+    void-held : (v : VoidStation) → solveOf s b .outcome ≡ RefusedVoid v → AreBytes s → RefusalHeld (voidRefusal s v)
     void-held v e bytes =
         record {
           job = number-lt (JOB .width) (JOB .offset) s bytes;
@@ -136,9 +139,9 @@ module _ (s : List ℕ) where
         }
 
     void-read : (v : VoidStation) → solveOf s b .outcome ≡ RefusedVoid v → AreBytes s →
-        refusalOf (outputOf s b .buffer) ≡ voidRefusalFor s v
+        refusalOf (outputOf s b .buffer) ≡ voidRefusal s v
     void-read v e bytes =
-        ap refusalOf (void-record v e .1) ∙ refusal-back (voidRefusalFor s v) (drop voidRefusalSize b) (void-held v e bytes)
+        ap refusalOf (void-record v e .1) ∙ refusal-back (voidRefusal s v) (drop voidRefusalSize b) (void-held v e bytes)
 
     pub recording : Recording s b
     recording =

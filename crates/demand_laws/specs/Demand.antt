@@ -5,20 +5,24 @@ use mathlib.Core.Bool.{Bool, true, false, cond, not}
 use mathlib.Core.Logic.{_⊎_}
 use mathlib.Core.List.{List, _++_, map}
 use Prim.Native.Nat.{ℕ, _+_, _-_, _^_, _≤_, _<_}
+use lib.Dec.{eqb}
 use lib.IntN.{pos, _+ℤ_}
 use lib.Ieee.{Float}
 use lib.ListN.{length, getD, take, drop}
-use Rattle.question_record.specs.Record.{refusalFor, voidRefusalFor, recordOf, outputOf}
+use Rattle.question_record.specs.Record.{recordOf, outputOf}
 use Rattle.float64.specs.Notation.{_≺_, 0F, 1F}
 use Rattle.float64.specs.Value.{finiteOf, magnitudeOf}
 use Rattle.geometry.specs.Triangles.{shapeOf}
 use Rattle.little_endian.specs.Bytes.{AreBytes}
-use Rattle.records.specs.Layout.{entrySize, answerSize, answerRoom, headSize, voidRefusalSize, voidNumber}
-use Rattle.records.specs.Records.{questionOf, headOf, answerHeadOf, entryOf, entryBytes, answerBytes, refusalOf, refusalBytes}
+use Rattle.records.specs.Layout.{entrySize, answerSize, answerRoom, headSize, voidRefusalSize, voidNumber, jobOf, revisionOf}
+use Rattle.records.specs.Records.{questionOf, headOf, answerHeadOf, entryOf, entryBytes, answerBytes, refusalOf, refusalWith}
+use Rattle.records.specs.Records.{refusalBytes}
+use Rattle.records.specs.declared.Refusal.{Refusal}
 use Rattle.records.specs.declared.Entry.{Entry}
 use Rattle.entrance.specs.Judge.{Check, checks, longWay, problemOf}
 use Rattle.entrance.specs.Table.{appliesIn, conditionOf, First, Exactly}
 use Rattle.entrance.specs.declared.Problem.{Problem}
+use Rattle.hypergeometric.specs.Reasons.{reasonNumber}
 use Rattle.hypergeometric.specs.declared.reasons.Reason.{Reason}
 use Rattle.flight_time.specs.declared.Place.the-variants.{Timed, Void}
 use Rattle.bisection.specs.Pairs.{bracketOf}
@@ -193,19 +197,32 @@ pub record Demand3 (s b : List ℕ) : Type 0 where
 
 -- ---- the record of a question
 
+-- What the record of number 12 says.
+abbrev pub voidRefusal : List ℕ → VoidStation → Refusal
+voidRefusal s v = record {
+  job = jobOf s;
+  revision = revisionOf s;
+  number = 12;
+  station = v .j;
+  reason = reasonNumber (v .reason);
+}
+
 -- How the record of a question, and what the buffer then holds, follow from the outcome of `solveOf`. `Demanded` states this for a buffer
 -- with room for the longest answer.
 pub record Recording (s b : List ℕ) : Type 0 where
   pub answered : (n : ℕ) → solveOf s b .outcome ≡ Answered n →
       (outputOf s b .size ≡ answerSize n) × (outputOf s b .buffer ≡ solveOf s b .buffer)
-  -- A refusal without a station has another number than 12, and its record is the head alone.
+  -- A refusal without a station has a number other than 12, and its record is the head alone. It names the question's job and revision, or
+  -- 0 for both with number 1.
   pub refused : (n : ℕ) → solveOf s b .outcome ≡ Refused n →
-      (n ≡ voidNumber → ⊥) × (outputOf s b .size ≡ headSize) × (outputOf s b .buffer ≡ refusalBytes (refusalFor s n) ++ drop headSize b)
-  -- The record of number 12 has the station and the reason, and reading it gives them back. The latter requires that s consists of bytes.
+      let r = cond (eqb n 1) (refusalWith 0 0 n) (refusalWith (jobOf s) (revisionOf s) n) in
+      (n ≡ voidNumber → ⊥) × (outputOf s b .size ≡ headSize) × (outputOf s b .buffer ≡ refusalBytes r ++ drop headSize b)
+  -- The record of number 12 has the question's job and revision, the j of the station, and the number of the reason, and reading it gives
+  -- them back. The latter requires that s consists of bytes.
   pub void : (v : VoidStation) → solveOf s b .outcome ≡ RefusedVoid v →
-      (outputOf s b .size ≡ voidRefusalSize) × (outputOf s b .buffer ≡ refusalBytes (voidRefusalFor s v) ++ drop voidRefusalSize b)
+      (outputOf s b .size ≡ voidRefusalSize) × (outputOf s b .buffer ≡ refusalBytes (voidRefusal s v) ++ drop voidRefusalSize b)
   pub voidRead : (v : VoidStation) → solveOf s b .outcome ≡ RefusedVoid v → AreBytes s →
-      refusalOf (outputOf s b .buffer) ≡ voidRefusalFor s v
+      refusalOf (outputOf s b .buffer) ≡ voidRefusal s v
   -- The record is at the buffer's start, fits in the room for the longest answer, and depends on the question's bytes alone.
   pub size : outputOf s b .size ≡ length (recordOf s)
   pub fits : length (recordOf s) ≤ answerRoom

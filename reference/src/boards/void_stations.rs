@@ -16,7 +16,7 @@ const STATIONS: [i32; 9] = [-4_095, -4_094, -1, 0, 1, 4_095, 16_384, i32::MIN, i
 const REASONS: [u16; 8] = [0, 1, 2, 3, 4, 5, 256, u16::MAX];
 
 /// Numbers of refusals: 12, others in force, and some that aren't, two of which have a byte that is 12.
-const NUMBERS: [u16; 10] = [0, 1, 2, 11, 12, 13, 14, 15, 0x0C00, 0x010C];
+const NUMBERS: [u16; 11] = [0, 1, 2, 5, 11, 12, 13, 14, 15, 0x0C00, 0x010C];
 
 /// The size and the length of a record: those without a station and with one, mixed ones, and others.
 const FORMS: [(usize, u32); 12] = [
