@@ -20,10 +20,10 @@ fn which_forms_are_taken() {
         .filter(|bytes| Message::read(bytes).is_some())
         .map(|bytes| (u16::from_le_bytes(part(&bytes, COUNT)), bytes.len()))
         .collect();
-    assert_eq!(taken, [(1, 16), (2, 16), (11, 16), (12, 22), (13, 16), (14, 16)]);
+    assert_eq!(taken, [(1, 16), (2, 16), (5, 16), (11, 16), (12, 22), (13, 16), (14, 16)]);
     let told = outcomes(listed(forms()));
-    assert_eq!(told.len(), 120);
-    assert_eq!((told.matches('T').count(), told.matches('1').count()), (6, 114));
+    assert_eq!(told.len(), 132);
+    assert_eq!((told.matches('T').count(), told.matches('1').count()), (7, 125));
 }
 
 #[test]
@@ -56,7 +56,7 @@ fn slots_with_records_of_every_form() {
         (told.len(), told.matches(&BAD_BOARD.to_string()).count())
     };
     let (all, bad) = count(&forms(), &mut r);
-    assert!(all >= 123 && bad == 113, "{all} {bad}");
+    assert!(all >= 135 && bad == 124, "{all} {bad}");
     assert_eq!(count(&every_station(), &mut r).1, 0);
     let (all, bad) = count(&vec![without_station(refusal(1, 1, 0, 0)); 5], &mut r);
     assert_eq!((all >= 8, bad), (true, 5));
