@@ -15,13 +15,14 @@ import re
 import sys
 
 HEAD = re.compile(
-    r"^(?:unfoldable |abbrev |pub |data |record |ruleset )*([^\s:(){}\[\],;.]+)(?: [({][^)}]*[)}])*\s*(?::(?!=)|where)"
+    r"^\s*(?:unfoldable |abbrev |pub |data |record |ruleset )*([^\s:(){}\[\],;.λ]+)(?: [({][^)}]*[)}])*\s*(?::(?!=)|where)"
 )
-FIELD = re.compile(r"^\s+(?:pub )?([^\s:(){}\[\],;.]+) :(?!=) ")
 TOKEN = re.compile(r"[^\s(){}\[\],;.«»`\"]+")
 WORDS = re.compile(r"(?<=[a-z0-9])(?=[A-Z])")
 # Names with these parts are made by the toolchain, not by this repository.
-MADE = re.compile(r"^(returns|loop|invariant|decreases|sub-|Need-|the-|In-|After-|Then|Else|At-)")
+MADE = re.compile(r"^(returns|loop|invariant|decreases|Need-|In-|After-|Then|Else|At-)")
+# Names of the toolchain's library that a lemma of this repository has too.
+THE_LIBRARYS = {"and-true", "and-false"}
 # A lemma that would have the name of its definition ends in _lem. The others would have a name that something else in their file has.
 BY_HAND = {
     "is-nan": "only_nan",
@@ -59,25 +60,22 @@ def files(root, endings, tops):
                 yield path
 
 
+def of_function(path):
+    """Whether the file belongs to the proof of one function, in a folder of proofs/."""
+    folder, name = os.path.split(path)
+    return name in ("Proof.antt", "Answers.antt", "Invariants.antt") and os.path.basename(folder) != "proofs"
+
+
 def declared():
     found = {}
     for path in files("crates", (".antt",), ("specs", "proofs")):
-        by_function = os.path.basename(path) in ("Proof.antt", "Answers.antt", "Invariants.antt")
-        if by_function:
+        if of_function(path):
             continue
         with open(path, encoding="utf-8") as file:
-            inside = False
             for line in file:
-                head = HEAD.match(line) if not line.startswith((" ", "--", "use ")) else None
+                head = None if line.lstrip().startswith(("--", "use ", "let ", "module ")) else HEAD.match(line)
                 if head:
                     found.setdefault(head[1], set()).add(path)
-                    inside = bool(re.match(r"^(pub |abbrev |unfoldable )*(record|data) ", line))
-                elif line.strip() and not line.startswith(" "):
-                    inside = False
-                elif inside:
-                    field = FIELD.match(line)
-                    if field:
-                        found.setdefault(field[1], set()).add(path)
     return found
 
 
@@ -89,7 +87,7 @@ def names():
         new = BY_HAND.get(name, snake(name))
         if "-" in name and name not in BY_HAND and new in definitions:
             new += "_lem"
-        if new != name and not MADE.match(name):
+        if new != name and not MADE.match(name) and name not in THE_LIBRARYS:
             table[name] = new
     table.update(BY_HAND)
     return table
@@ -109,6 +107,14 @@ def with_turned(table):
 
 def turned(text, table):
     return TOKEN.sub(lambda it: table.get(it[0], it[0]), text)
+
+
+def turn_answers(text, table):
+    """Turns a proof file of a function. What follows a dot there is a step or a goal, which the toolchain names."""
+    return "\n".join(
+        line if line.startswith("--") else re.sub(r"(?<![.\w])" + TOKEN.pattern, lambda it: table.get(it[0], it[0]), line)
+        for line in text.split("\n")
+    )
 
 
 def turn_antt(text, table):
@@ -165,6 +171,8 @@ def main():
         with open(path, encoding="utf-8") as file:
             text = file.read()
         turn = turn_antt if path.endswith(".antt") else turn_rt if path.endswith(".rt") else turn_edit
+        if of_function(path):
+            turn = turn_answers
         new = turn(text, told if path.endswith(".edit") else table)
         if new != text and not check:
             with open(path, "w", encoding="utf-8") as file:
