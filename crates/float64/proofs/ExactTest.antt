@@ -1,7 +1,8 @@
 -- The exact test of an estimated root, on whole numbers. A significand s with s * s - s < a * 2 ^ 52 ≤ s * s + s is half of the
 -- rounded-down root of a * 2 ^ 54, rounded up (`halved`). If every part of the code's sum is 0, the differences that the code computes
 -- modulo 2 ^ 64 are the true ones, s satisfies these bounds, and the tested pattern is that of the root (`passed`).
-use Rattle.std.proofs.Common.{◌≡◌, ℕ, zero, suc, ◌+◌, ◌-◌, ◌*◌, ◌/◌, ◌%◌, ◌^◌, ◌<◌, ◌≤◌, Bool, true, false, not, T, leb, sym, ap, ◌∙◌, mul-le-mul, arith, leb→le}
+use Rattle.std.proofs.Common.{◌≡◌, ℕ, zero, suc, ◌+◌, ◌-◌, ◌*◌, ◌/◌, ◌%◌, ◌^◌, ◌<◌, ◌≤◌, Bool, true, false, not, T, leb, sym, ap, ◌∙◌}
+use Rattle.std.proofs.Common.{mul-le-mul, arith, leb→le}
 use lib.Dec.{nleb→lt}
 use lib.Ieee.{binary64, of_bits}
 use Rattle.float64.specs.Isqrt.{Floor}
@@ -67,30 +68,30 @@ module _ (digits upper middle sum over less under : ℕ) where
   pub record Computed (a k c : ℕ) : Type 0 where
     pub digits_are : (digits + (k + 484) * 0x0010_0000_0000_0000) % 2 ^ 64 ≡ c
     pub upper_is : (upper + h * h) % 2 ^ 64 ≡ a + 4
-    pub middle-is : (middle + 2 * (h * l)) % 2 ^ 64 ≡ upper * 2 ^ 26 % 2 ^ 64
+    pub middle_is : (middle + 2 * (h * l)) % 2 ^ 64 ≡ upper * 2 ^ 26 % 2 ^ 64
     pub sum_is : sum ≡ (middle * 2 ^ 26 % 2 ^ 64 + s) % 2 ^ 64
-    pub over-is-rest : (over + (l * l + 2 ^ 54)) % 2 ^ 64 ≡ sum
-    pub less-is : (less + 1) % 2 ^ 64 ≡ over
-    pub under-is : (under + over) % 2 ^ 64 ≡ 2 * s
+    pub over_is_rest : (over + (l * l + 2 ^ 54)) % 2 ^ 64 ≡ sum
+    pub less_is : (less + 1) % 2 ^ 64 ≡ over
+    pub under_is : (under + over) % 2 ^ 64 ≡ 2 * s
 
   abbrev pub parts : ℕ
   parts = digits / 2 ^ 53 + upper / 2 ^ 30 + middle / 2 ^ 30 + (less / 2 ^ 63 + under / 2 ^ 63)
 
   record Small : Type 0 where
-    digits-small : digits < 2 ^ 53
-    upper-small : upper < 2 ^ 30
-    middle-small : middle < 2 ^ 30
-    less-small : less < 2 ^ 63
-    under-small : under < 2 ^ 63
+    digits_small : digits < 2 ^ 53
+    upper_small : upper < 2 ^ 30
+    middle_small : middle < 2 ^ 30
+    less_small : less < 2 ^ 63
+    under_small : under < 2 ^ 63
 
   small : parts ≡ 0 → Small
   small z =
       record {
-        digits-small = omega arith;
-        upper-small = omega arith;
-        middle-small = omega arith;
-        less-small = omega arith;
-        under-small = omega arith;
+        digits_small = omega arith;
+        upper_small = omega arith;
+        middle_small = omega arith;
+        less_small = omega arith;
+        under_small = omega arith;
       }
 
   pub passed : (n a k c : ℕ) → Computed a k c → Scaled n a k → k ≤ 1049 → parts ≡ 0 → of_bits binary64 c ≡ root_of_units n
@@ -99,38 +100,38 @@ module _ (digits upper middle sum over less under : ℕ) where
       let hh = square_27 h (omega arith) in
       let hl = product_53 h l (omega arith) (omega arith) in
       let ll = square_26 l (omega arith) in
-      let upper-true = sum_64 upper (h * h) (a + 4) t.upper_is (fits-1 upper (h * h) m.upper-small hh) in
+      let upper-true = sum_64 upper (h * h) (a + 4) t.upper_is (fits_1 upper (h * h) m.upper_small hh) in
       let middle-true =
-      sum_64 middle (2 * (h * l)) _ t.middle-is (fits-2 middle (h * l) m.middle-small hl) ∙ shifted upper m.upper-small in
-      let sum-true = t.sum_is ∙ added middle digits m.middle-small in
-      let less-true = sum_64 less 1 over t.less-is (fits-3 less m.less-small) in
-      let over-true = sum_64 over (l * l + 2 ^ 54) sum t.over-is-rest (fits-4 less over (l * l) m.less-small less-true ll) in
-      let under-true = sum_64 under over (2 * s) t.under-is (fits-5 less under over m.less-small m.under-small less-true) in
+      sum_64 middle (2 * (h * l)) _ t.middle_is (fits_2 middle (h * l) m.middle_small hl) ∙ shifted upper m.upper_small in
+      let sum-true = t.sum_is ∙ added middle digits m.middle_small in
+      let less-true = sum_64 less 1 over t.less_is (fits_3 less m.less_small) in
+      let over-true = sum_64 over (l * l + 2 ^ 54) sum t.over_is_rest (fits_4 less over (l * l) m.less_small less-true ll) in
+      let under-true = sum_64 under over (2 * s) t.under_is (fits_5 less under over m.less_small m.under_small less-true) in
       let s-is = split digits in
       let over-parts = over-true ∙ sum-true ∙ ap (λ (x : ℕ). middle * 2 ^ 26 + x) s-is in
       let square = over_is a h l upper middle over upper-true middle-true over-parts in
       let most-over = at_most under over s (h * 2 ^ 26 + l) under-true s-is in
       let found = halved a (h * 2 ^ 26 + l) over square (at_least less over less-true) most-over in
       let root = assembled n a k found.root scaled most found.is_floor in
-      ap (of_bits binary64) (pattern-is found.root (found.half ∙ sym s-is) m.digits-small) ∙ root.is_root
+      ap (of_bits binary64) (pattern_is found.root (found.half ∙ sym s-is) m.digits_small) ∙ root.is_root
     where
       split : (x : ℕ) → x % 2 ^ 53 ≡ x % 2 ^ 53 / 2 ^ 26 * 2 ^ 26 + x % 2 ^ 53 % 2 ^ 26
       split x = omega arith
 
-      fits-1 : (x y : ℕ) → x < 2 ^ 30 → y ≤ (2 ^ 27 - 1) * (2 ^ 27 - 1) → x + y < 2 ^ 64
-      fits-1 x y f g = omega arith
+      fits_1 : (x y : ℕ) → x < 2 ^ 30 → y ≤ (2 ^ 27 - 1) * (2 ^ 27 - 1) → x + y < 2 ^ 64
+      fits_1 x y f g = omega arith
 
-      fits-2 : (x y : ℕ) → x < 2 ^ 30 → y ≤ (2 ^ 27 - 1) * (2 ^ 26 - 1) → x + 2 * y < 2 ^ 64
-      fits-2 x y f g = omega arith
+      fits_2 : (x y : ℕ) → x < 2 ^ 30 → y ≤ (2 ^ 27 - 1) * (2 ^ 26 - 1) → x + 2 * y < 2 ^ 64
+      fits_2 x y f g = omega arith
 
-      fits-3 : (x : ℕ) → x < 2 ^ 63 → x + 1 < 2 ^ 64
-      fits-3 x f = omega arith
+      fits_3 : (x : ℕ) → x < 2 ^ 63 → x + 1 < 2 ^ 64
+      fits_3 x f = omega arith
 
-      fits-4 : (x y z : ℕ) → x < 2 ^ 63 → x + 1 ≡ y → z ≤ (2 ^ 26 - 1) * (2 ^ 26 - 1) → y + (z + 2 ^ 54) < 2 ^ 64
-      fits-4 x y z f g i = omega arith
+      fits_4 : (x y z : ℕ) → x < 2 ^ 63 → x + 1 ≡ y → z ≤ (2 ^ 26 - 1) * (2 ^ 26 - 1) → y + (z + 2 ^ 54) < 2 ^ 64
+      fits_4 x y z f g i = omega arith
 
-      fits-5 : (x y z : ℕ) → x < 2 ^ 63 → y < 2 ^ 63 → x + 1 ≡ z → y + z < 2 ^ 64
-      fits-5 x y z f g i = omega arith
+      fits_5 : (x y z : ℕ) → x < 2 ^ 63 → y < 2 ^ 63 → x + 1 ≡ z → y + z < 2 ^ 64
+      fits_5 x y z f g i = omega arith
 
       shifted : (x : ℕ) → x < 2 ^ 30 → x * 2 ^ 26 % 2 ^ 64 ≡ x * 2 ^ 26
       shifted x f = omega arith
@@ -144,5 +145,5 @@ module _ (digits upper middle sum over less under : ℕ) where
       at_most : (x y z u : ℕ) → x + y ≡ 2 * z → z ≡ u → y ≤ 2 * u
       at_most x y z u f g = omega arith
 
-      pattern-is : (q : ℕ) → (q + 1) / 2 ≡ s → digits < 2 ^ 53 → c ≡ (k + 484) * 0x0010_0000_0000_0000 + (q + 1) / 2
-      pattern-is q f g = omega (arith, t.digits_are, most)
+      pattern_is : (q : ℕ) → (q + 1) / 2 ≡ s → digits < 2 ^ 53 → c ≡ (k + 484) * 0x0010_0000_0000_0000 + (q + 1) / 2
+      pattern_is q f g = omega (arith, t.digits_are, most)

@@ -11,7 +11,7 @@ mod Normalising
 mod Assembly
 mod ExactTest
 mod Cases
-mod FourRoots
+mod FourRootsLemmas
 mod Range
 pub mod Grid
 pub mod Law

@@ -1,7 +1,8 @@
--- The ends between which a root is estimated. A number between them is positive, finite and normal (`inside-positive`, `inside-normal`),
--- and the clamp leaves it as it is (`clamped-inside`). Every clamped number is positive, finite and normal (`clamped-positive`,
--- `clamped-normal`). What is at most `high_end` is not a NaN (`not-nan`).
-use Rattle.std.proofs.Common.{◌≡◌, ℕ, zero, suc, ◌-◌, ◌*◌, ◌/◌, ◌%◌, ◌^◌, ◌<◌, ◌≤◌, Bool, true, false, cond, not, ◌&&◌, T, ℤ, sym, refl, ap, ◌∙◌, subst, lt_of_not-le, zero-mul, le_of_mul-le-mul_right, arith, lit<, lit≤, pow_pos, ltb-true}
+-- The ends between which a root is estimated. A number between them is positive, finite and normal (`inside_positive`, `inside_normal`),
+-- and the clamp leaves it as it is (`clamped_inside`). Every clamped number is positive, finite and normal (`clamped_positive`,
+-- `clamped_normal`). What is at most `high_end` is not a NaN (`not_nan`).
+use Rattle.std.proofs.Common.{◌≡◌, ℕ, zero, suc, ◌-◌, ◌*◌, ◌/◌, ◌%◌, ◌^◌, ◌<◌, ◌≤◌, Bool, true, false, cond, not, ◌&&◌, T, ℤ, sym, refl}
+use Rattle.std.proofs.Common.{ap, ◌∙◌, subst, lt_of_not-le, zero-mul, le_of_mul-le-mul_right, arith, lit<, lit≤, pow_pos, ltb-true}
 use mathlib.Core.Bool.{false≢true}
 use lib.Ieee.{Float, nan, inf, fin, binary64, fits, is_nan, up, lt, le, of_bits, to_bits}
 use lib.Ieee.Exact.{HasValue}

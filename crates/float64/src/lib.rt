@@ -1,5 +1,7 @@
 // The operations on f64 that the later layers share: the square root (01, Root), four square roots side by side, the magnitude,
 // the test for finite numbers, and the conversions between an f64 and its 64 bits. Each public function accepts any f64 or any 64 bits.
+#![tactic(auto)]
+
 ghost use Rattle.std.specs.Prelude.{◌≡◌, ◌<◌};
 ghost use Rattle.float64.specs.Root.{root_of, root_of_units};
 ghost use Rattle.float64.specs.Internals.{infinity_bits, units_of_bits};
@@ -22,7 +24,7 @@ pub use value::{from_bits, is_finite, magnitude, to_bits};
 
 // A vector of three components. It represents a position in km, a velocity in km/s, a direction, or a cross product of
 // positions in km^2.
-#[derive(Drop)]
+#[derive(Clone, Copy)]
 pub struct Vector {
     pub x: f64,
     pub y: f64,
@@ -30,7 +32,7 @@ pub struct Vector {
 }
 
 // The result of a square root. It is `Refused` for a number below zero, an infinity or a NaN.
-#[derive(Drop)]
+#[derive(Clone, Copy)]
 pub enum Root {
     Value(f64),
     Refused,

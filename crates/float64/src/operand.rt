@@ -6,7 +6,7 @@ use crate::bit_patterns::LEADING_DIGIT;
 
 // The operand of the whole-number square root is a * 2^54. The last of the 53 digits of the rounded root counts 2^(k + 484) units
 // of 2^-1074.
-#[derive(Drop)]
+#[derive(Clone, Copy)]
 pub(crate) struct Operand {
     pub(crate) a: u64,
     pub(crate) k: u64,

@@ -8,7 +8,7 @@ use crate::exact_test::mismatch_of;
 use crate::{Root, square_root};
 
 // Four numbers.
-#[derive(Drop)]
+#[derive(Clone, Copy)]
 pub struct Four {
     pub a: f64,
     pub b: f64,
@@ -17,7 +17,7 @@ pub struct Four {
 }
 
 // The result of four square roots: the roots, or `SomeRefused` if at least one of them is refused.
-#[derive(Drop)]
+#[derive(Clone, Copy)]
 pub enum FourRoots {
     Values(Four),
     SomeRefused,

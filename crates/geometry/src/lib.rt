@@ -1,9 +1,12 @@
 // Computes the triangle of two positions, its plane and the wanted time (01, Triangle), and the
 // conditions of the entrance checks on them. Every function accepts any f64, including NaNs and
 // infinities.
+#![tactic(auto)]
+
 ghost use Rattle.std.specs.Prelude.{◌≡◌, cond};
 ghost use Rattle.vectors.specs.Vectors.{opposite};
-ghost use Rattle.geometry.specs.Triangles.{semiperimeter_of, at_least_zero, lambda_of, kappa_of, triangle_of, shape_of, frame_of, wanted_of};
+ghost use Rattle.geometry.specs.Triangles.{semiperimeter_of, at_least_zero, lambda_of, kappa_of, triangle_of, shape_of, frame_of};
+ghost use Rattle.geometry.specs.Triangles.{wanted_of};
 
 mod conditions;
 
@@ -16,7 +19,7 @@ use vectors::{difference, opposite};
 pub const LARGEST_LENGTH: f64 = 1099511627776.0;
 
 // The five numbers that the time and velocity steps receive: L, s, c, ρ and σ.
-#[derive(Drop)]
+#[derive(Clone, Copy)]
 pub struct Triangle {
     pub lambda: f64,
     pub semiperimeter: f64,
@@ -29,7 +32,7 @@ pub struct Triangle {
 // the distances from the origin, and `radius1` and `radius2` are the distances. `h` is the cross
 // product of the positions, and `hh` is the square of its length. `triangle` is the triangle of the
 // positions and the way between them.
-#[derive(Drop)]
+#[derive(Clone, Copy)]
 pub struct Shape {
     pub q1: f64,
     pub q2: f64,
@@ -42,7 +45,7 @@ pub struct Shape {
 
 // Unit vectors. `normal` is the normal of the plane, negated for the long way. `unit1` and `unit2`
 // point from the origin to the two positions.
-#[derive(Drop)]
+#[derive(Clone, Copy)]
 pub struct Frame {
     pub normal: Vector,
     pub unit1: Vector,

@@ -1,5 +1,5 @@
--- The number of a reason is at most 4 (`number-most`), by cases.
-use Prim.Native.Nat.{ℕ, ◌≤◌}
+-- The number of a reason is at most 4 (`number_most`), by cases.
+use Prim.Native.Nat.{◌≤◌}
 use native.Mathlib.Omega.{arith}
 use Rattle.hypergeometric.specs.Reasons.{reason_number}
 use Rattle.hypergeometric.specs.declared.reasons.Reason.{Reason}

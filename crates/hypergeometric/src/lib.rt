@@ -1,5 +1,7 @@
 // The hypergeometric function of the time equation (01, Time at one place, steps 2 to 5). The angle
 // is halved three times, the series is evaluated there, and then the three halvings are undone.
+#![tactic(auto)]
+
 ghost use Rattle.std.specs.Prelude.{◌≡◌};
 ghost use Rattle.hypergeometric.specs.Steps.{y_of, eta_of, c1_of, next_c, half_angles_of, s4_of, back_of, g_of};
 

@@ -3,7 +3,7 @@ ghost use Rattle.std.specs.Prelude.{◌≡◌};
 ghost use Rattle.hypergeometric.specs.Reasons.{reason_number};
 
 // The reason why a place has no time. If several apply, the first one met in the steps counts.
-#[derive(Drop)]
+#[derive(Clone, Copy)]
 pub enum Reason {
     // L, k or the number of whole revolutions is outside its range (step 1).
     OutsideRange,

@@ -1,5 +1,7 @@
 // Vectors, computed component by component in 01's order of operations (01, Triangle), and a square
 // root that returns a NaN instead of a refusal.
+#![tactic(auto)]
+
 ghost use Rattle.std.specs.Prelude.{◌≡◌};
 ghost use Rattle.vectors.specs.Vectors.{norm_squared, difference, cross, divided_by, opposite, or_nan, root_or_nan};
 
