@@ -1,6 +1,6 @@
 -- The entrance checks follow 01's table for the numbers 1 to 10 (01, Numbers of refusal). A number is given exactly
--- when its own condition holds and no earlier one does (`refused-exactly`). A question is accepted exactly when no
--- condition holds (`accepted-exactly`). `the-conditions` lists the ten conditions. The proofs are by induction on the
+-- when its own condition holds and no earlier one does (`refused_exactly`). A question is accepted exactly when no
+-- condition holds (`accepted_exactly`). `the_conditions` lists the ten conditions. The proofs are by induction on the
 -- list of checks, whose numbers rise.
 use Prim.Native.Nat.{ℕ, zero, suc, ◌≤◌, ◌<◌}
 use mathlib.Core.Path.{◌≡◌, refl, sym, ap, ◌∙◌, subst}
@@ -61,7 +61,7 @@ above high [] n none h = refl
 above high (c ∷ cs) n (more l r) h = past_head c cs n (λ (e : c.number ≡ n). omega arith) ∙ above high cs n r h
 
 -- ---- the first check that applies
--- For a list whose numbers rise, `first_of` gives n above 0 exactly when `First` holds for n: `first-is` and `is-first`
+-- For a list whose numbers rise, `first_of` gives n above 0 exactly when `First` holds for n: `first_is` and `is_first`
 -- are the two directions.
 pub first_is : (low : ℕ) (cs : List Check) (n : ℕ) → Rising low cs → 0 < n → first_of cs ≡ n → First (applies_in cs) n
 unfolding first_of
@@ -108,7 +108,7 @@ is_first low (c ∷ cs) n (more l r) f = by (λ (g : First (applies_in cs) n). i
         rest m true e g = below c.number cs m r (le_of_eq (sym (eqb-true c.number m e)))
         rest m false e g = sym (past_head c cs m (eqb-false c.number m e)) ∙ g
 
--- `first_of` is 0 exactly when no check applies: `none_first` and `first-none` are the two directions.
+-- `first_of` is 0 exactly when no check applies: `none_first` and `first_none` are the two directions.
 pub none_first : (low : ℕ) (cs : List Check) → Rising low cs → ((n : ℕ) → applies_in cs n ≡ false) → first_of cs ≡ 0
 none_first low cs r f = by (first_of cs) refl
   where
@@ -168,57 +168,59 @@ module _ (s : List ℕ) (room : ℕ) where
       (more (lit< tt) (more (lit< tt)
       (more (lit< tt) (more (lit< tt) (more (lit< tt) (more (lit< tt) (more (lit< tt) (more (lit< tt) none)))))))))
 
-  to-ten : UpTo 10 (checks (length s) room q g)
+  to_ten : UpTo 10 (checks (length s) room q g)
   unfolding checks
-  to-ten =
+  to_ten =
       more (lit≤ tt) (more (lit≤ tt)
       (more (lit≤ tt) (more (lit≤ tt)
       (more (lit≤ tt) (more (lit≤ tt) (more (lit≤ tt) (more (lit≤ tt) (more (lit≤ tt) (more (lit≤ tt) none)))))))))
 
-  pub refused-exactly : (n : ℕ) → 0 < n → Exactly (judge_of s room ≡ Refused n) (First (condition_of s room) n)
+  pub refused_exactly : (n : ℕ) → 0 < n → Exactly (judge_of s room ≡ Refused n) (First (condition_of s room) n)
   unfolding judge_of condition_of
-  refused-exactly n p = record {
-    only = λ e. first_is 0 (checks (length s) room q g) n rising p (the_number (first_of (checks (length s) room q g)) (problem_of q g) n e);
+  refused_exactly n p = record {
+    only =
+        λ e. first_is 0 (checks (length s) room q g) n rising p (the_number (first_of (checks (length s) room q g)) (problem_of q g) n e);
     always = λ f. refuses (first_of (checks (length s) room q g)) (problem_of q g) n p (is_first 0 (checks (length s) room q g) n rising f);
   }
 
-  pub accepted-exactly : Exactly (judge_of s room ≡ Accepted (problem_of q g)) ((n : ℕ) → condition_of s room n ≡ false)
+  pub accepted_exactly : Exactly (judge_of s room ≡ Accepted (problem_of q g)) ((n : ℕ) → condition_of s room n ≡ false)
   unfolding judge_of condition_of
-  accepted-exactly = record {
+  accepted_exactly = record {
     only = λ e. first_none 0 (checks (length s) room q g) rising (no_number (first_of (checks (length s) room q g)) (problem_of q g) e);
     always = λ f. accepts (first_of (checks (length s) room q g)) (problem_of q g) (none_first 0 (checks (length s) room q g) rising f);
   }
 
-  pub accepted-when : first_of (checks (length s) room q g) ≡ 0 → judge_of s room ≡ Accepted (problem_of q g)
+  pub accepted_when : first_of (checks (length s) room q g) ≡ 0 → judge_of s room ≡ Accepted (problem_of q g)
   unfolding judge_of
-  accepted-when e = accepts (first_of (checks (length s) room q g)) (problem_of q g) e
+  accepted_when e = accepts (first_of (checks (length s) room q g)) (problem_of q g) e
 
-  -- An accepted problem is the problem of the question itself (`accepted-problem`), and the answer buffer then has room
-  -- for any answer (`accepted-room`).
-  pub accepted-problem : (p : Problem) → judge_of s room ≡ Accepted p → p ≡ problem_of q g
+  -- An accepted problem is the problem of the question itself (`accepted_problem`), and the answer buffer then has room
+  -- for any answer (`accepted_room`).
+  pub accepted_problem : (p : Problem) → judge_of s room ≡ Accepted p → p ≡ problem_of q g
   unfolding judge_of
-  accepted-problem p e = by (eqb (first_of (checks (length s) room q g)) 0) e
+  accepted_problem p e = by (eqb (first_of (checks (length s) room q g)) 0) e
     where
-      by : (t : Bool) → cond t (Accepted (problem_of q g)) (Refused (first_of (checks (length s) room q g))) ≡ Accepted p → p ≡ problem_of q g
+      by : (t : Bool) → cond t (Accepted (problem_of q g)) (Refused (first_of (checks (length s) room q g))) ≡ Accepted p
+          → p ≡ problem_of q g
       by true f = cc
       by false f = cc
 
-  pub accepted-room : (p : Problem) → judge_of s room ≡ Accepted p → answer_room ≤ room
+  pub accepted_room : (p : Problem) → judge_of s room ≡ Accepted p → answer_room ≤ room
   unfolding condition_of applies_in checks small_buffer
-  accepted-room p e =
-      ltb-false room answer_room (accepted-exactly.only (e ∙ ap Accepted (accepted-problem p e)) 7)
+  accepted_room p e =
+      ltb-false room answer_room (accepted_exactly.only (e ∙ ap Accepted (accepted_problem p e)) 7)
 
   -- The ten conditions, in the order of the table.
-  pub the-conditions : map (condition_of s room) (1 ∷ 2 ∷ 3 ∷ 4 ∷ 5 ∷ 6 ∷ 7 ∷ 8 ∷ 9 ∷ 10 ∷ [])
+  pub the_conditions : map (condition_of s room) (1 ∷ 2 ∷ 3 ∷ 4 ∷ 5 ∷ 6 ∷ 7 ∷ 8 ∷ 9 ∷ 10 ∷ [])
       ≡ malformed (length s) q ∷ positions_far q ∷ radius_outside g ∷ mu_outside q ∷ time_outside q ∷ many_revolutions q ∷ small_buffer room
       ∷ no_plane g ∷ short_chord g.triangle ∷ flat_triangle g.triangle ∷ []
   unfolding condition_of applies_in checks
-  the-conditions = refl
+  the_conditions = refl
 
   -- No number outside 1 to 10 has a condition that holds.
-  pub only-ten : (n : ℕ) → condition_of s room n ≡ true → (0 < n) × (n ≤ 10)
+  pub only_ten : (n : ℕ) → condition_of s room n ≡ true → (0 < n) × (n ≤ 10)
   unfolding condition_of
-  only-ten n e = (
+  only_ten n e = (
     later 0 (checks (length s) room q g) n rising e,
-    le_of_suc-le-suc (lt_of_not-le (λ (h : 11 ≤ n). true≢false (sym e ∙ above 10 (checks (length s) room q g) n to-ten h))),
+    le_of_suc-le-suc (lt_of_not-le (λ (h : 11 ≤ n). true≢false (sym e ∙ above 10 (checks (length s) room q g) n to_ten h))),
   )

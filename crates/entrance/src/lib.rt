@@ -1,5 +1,7 @@
 // The entrance checks (01, Numbers of refusal). `judge` takes any bytes and the size of an answer
 // buffer. Its verdict is the number of the first fault, from 1 to 10, or the problem to solve.
+#![tactic(auto)]
+
 ghost use Rattle.std.specs.Prelude.{◌≡◌};
 ghost use Rattle.entrance.specs.Judge.{problem_of, judge_of};
 
@@ -12,7 +14,7 @@ use records::Question;
 
 // The problem to solve: the question's own numbers, its triangle and unit vectors, and the wanted
 // time in the triangle's unit.
-#[derive(Drop)]
+#[derive(Clone, Copy)]
 pub struct Problem {
     pub job: u32,
     pub revision: u32,
@@ -28,7 +30,7 @@ pub struct Problem {
 
 // The verdict on a question: refused with the number of the first fault, or accepted as a problem
 // to solve.
-#[derive(Drop)]
+#[derive(Clone, Copy)]
 pub enum Judged {
     Refused(u16),
     Accepted(Problem),

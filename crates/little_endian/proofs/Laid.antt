@@ -1,6 +1,6 @@
 -- Bytes written to the start of a buffer. If there is room, they become the front of the buffer and the rest
--- is unchanged (`laid`); otherwise the whole buffer is unchanged (`not-laid`). Earlier bytes that are
--- overwritten completely have no effect (`laid-over`).
+-- is unchanged (`laid`); otherwise the whole buffer is unchanged (`not_laid`). Earlier bytes that are
+-- overwritten completely have no effect (`laid_over`).
 use mathlib.Core.Path.{◌≡◌, sym, ap, ◌∙◌}
 use mathlib.Core.List.{List, ◌++◌}
 use Prim.Native.Nat.{ℕ, ◌+◌, ◌-◌, ◌≤◌, ◌<◌}

@@ -1,5 +1,5 @@
 -- Shows that reading returns what was written, whatever is before and after it: for one number that fits its width
--- (`number-back`), and from that for a whole table of them (`table-back`).
+-- (`number_back`), and from that for a whole table of them (`table_back`).
 use mathlib.Core.Path.{◌≡◌, refl, sym, ap, ◌∙◌}
 use mathlib.Core.List.{List, [], ◌∷◌, ◌++◌, append_assoc}
 use Prim.Native.Nat.{ℕ, zero, suc, ◌+◌, ◌*◌, ◌/◌, ◌%◌, ◌^◌, ◌<◌}
@@ -49,6 +49,8 @@ pub data InRange : List ℕ → List ℕ → Type 0 where
 pub table_back : (ws vs before after : List ℕ) → InRange ws vs → decode ws (before ++ (packed ws vs ++ after)) (length before) ≡ vs
 unfolding decode packed
 table_back [] [] before after done = refl
+table_back [] (v ∷ vs) before after h = elim h [ ]
+table_back (w ∷ ws) [] before after h = elim h [ ]
 table_back (w ∷ ws) (v ∷ vs) before after (l ⟫ h) =
     let b = bytes_of w v in
     let rest = packed ws vs ++ after in

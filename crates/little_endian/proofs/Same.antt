@@ -1,6 +1,6 @@
 -- Shows that a number depends only on its own bytes (`number_same`, by induction on its width). So it stays
--- the same if the bytes after it are removed (`number-take`), if bytes before it are removed
--- (`number-drop`), and if more bytes follow (`number-front`).
+-- the same if the bytes after it are removed (`number_take`), if bytes before it are removed
+-- (`number_drop`), and if more bytes follow (`number_front`).
 use mathlib.Core.Path.{◌≡◌, refl}
 use mathlib.Core.List.{List, ◌++◌}
 use Prim.Native.Nat.{ℕ, zero, suc, ◌+◌, ◌≤◌, ◌<◌}
@@ -9,7 +9,8 @@ use lib.ListN.{length, get_or, take, drop, get_or-append}
 use lib.Seq.{get_or-take, get_or-drop}
 use Rattle.little_endian.specs.Bytes.{number_at}
 
-pub number_same : (w at : ℕ) (s t : List ℕ) → ((i : ℕ) → at ≤ i → i < at + w → get_or s i 0 ≡ get_or t i 0) → number_at w s at ≡ number_at w t at
+pub number_same : (w at : ℕ) (s t : List ℕ) → ((i : ℕ) → at ≤ i → i < at + w → get_or s i 0 ≡ get_or t i 0)
+    → number_at w s at ≡ number_at w t at
 unfolding number_at
 number_same zero at s t h = refl
 number_same (suc w) at s t h =

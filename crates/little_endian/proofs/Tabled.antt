@@ -1,5 +1,5 @@
--- Numbers stored by a table of widths: how many bytes they take (`packed-length`), how many bytes are left from a field on
--- (`total-at`), and the effect of storing one more number (`put-more`).
+-- Numbers stored by a table of widths: how many bytes they take (`packed_length`), how many bytes are left from a field on
+-- (`total_at`), and the effect of storing one more number (`put_more`).
 use mathlib.Core.Path.{◌≡◌, refl, sym, ap, ◌∙◌}
 use mathlib.Core.List.{List, [], ◌∷◌, ◌++◌}
 use Prim.Native.Nat.{ℕ, zero, suc, ◌+◌, ◌≤◌, ◌<◌, ◌/◌}

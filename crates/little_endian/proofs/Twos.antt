@@ -73,19 +73,19 @@ module _ (w : Width) where
   from_zero (pos n) e = refl
   from_zero (negsuc n) e = absurd (subst (λ (b : Bool). T b) e tt)
 
-  pub cast-from-zero : (k : ℤ) → SFits w k → lt_z k (pos 0) ≡ false → T (non_neg k) × Fits w (nat_abs k)
-  cast-from-zero (pos n) f e = (tt, of_z_fits w (pos n) f)
-  cast-from-zero (negsuc n) f e = absurd (subst (λ (b : Bool). T b) e tt)
+  pub cast_from_zero : (k : ℤ) → SFits w k → lt_z k (pos 0) ≡ false → T (non_neg k) × Fits w (nat_abs k)
+  cast_from_zero (pos n) f e = (tt, of_z_fits w (pos n) f)
+  cast_from_zero (negsuc n) f e = absurd (subst (λ (b : Bool). T b) e tt)
 
   -- The magnitude, which is k from 0 up and -(k + 1) below 0, fits in a word.
-  pub mag-fits : (k : ℤ) → SFits w k → Fits w (mag k)
-  mag-fits k f = record { fits = small (2 ^ bits w) (2 ^ hbits w) doubled f.sfits }
+  pub mag_fits : (k : ℤ) → SFits w k → Fits w (mag k)
+  mag_fits k f = record { fits = small (2 ^ bits w) (2 ^ hbits w) doubled f.sfits }
     where
       small : (p h : ℕ) → p ≡ 2 * h → mag k < h → mag k < p
       small p h d l = omega arith
 
-  pub inverted-twice : (b : ℕ) → b < 2 ^ bits w → 2 ^ bits w - 1 - (2 ^ bits w - 1 - b) ≡ b
-  inverted-twice b h = back (2 ^ bits w) h
+  pub inverted_twice : (b : ℕ) → b < 2 ^ bits w → 2 ^ bits w - 1 - (2 ^ bits w - 1 - b) ≡ b
+  inverted_twice b h = back (2 ^ bits w) h
     where
       back : (p : ℕ) → b < p → p - 1 - (p - 1 - b) ≡ b
       back p l = omega arith

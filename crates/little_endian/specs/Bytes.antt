@@ -1,5 +1,6 @@
 -- Numbers as little-endian bytes, and bytes written to the start of a buffer (01, Records on the wire). Definitions only.
-use Rattle.std.specs.Prelude.{ℕ, zero, suc, ◌+◌, ◌-◌, ◌*◌, ◌/◌, ◌%◌, ◌^◌, ◌<◌, Bool, cond, List, [], ◌∷◌, ◌++◌, leb, ltb, ℤ, pos, negsuc, length, get_or, drop}
+use Rattle.std.specs.Prelude.{ℕ, zero, suc, ◌+◌, ◌-◌, ◌*◌, ◌/◌, ◌%◌, ◌^◌, ◌<◌, Bool, cond, List, [], ◌∷◌, ◌++◌, leb, ltb, ℤ, pos, negsuc}
+use Rattle.std.specs.Prelude.{length, get_or, drop}
 
 -- Every element of the list is a byte. This holds for the contents of every slice of bytes.
 abbrev pub AreBytes : List ℕ → Type 0

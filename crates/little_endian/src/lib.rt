@@ -1,5 +1,7 @@
 // Little-endian numbers in slices of bytes. Reading accepts any bytes and any offset, and a byte past the end counts as 0.
 // Writing starts at the first byte of the buffer. If the buffer is too short, a write changes nothing and returns false.
+#![tactic(auto)]
+
 mod bytes;
 mod tables;
 mod typed;

@@ -1,5 +1,5 @@
 -- Shows that the bytes of a refusal are those of its head and then, for number 12 alone, those of station and reason
--- (`refusal-parts`). The proof computes both cases.
+-- (`refusal_parts`). The proof computes both cases.
 use mathlib.Core.Path.{◌≡◌, refl, ap, ◌∙◌}
 use mathlib.Core.Bool.{Bool, true, false, cond}
 use mathlib.Core.List.{List, [], ◌++◌, append_assoc}

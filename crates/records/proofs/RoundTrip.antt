@@ -1,5 +1,5 @@
 -- Shows that reading the bytes of a record returns the record, whatever follows them, if its values fit their fields
--- (`question-back`, `head-back`, `refusal-back`, `entry-back`). Each proof applies `table-back` to the record's table. A refusal
+-- (`question_back`, `head_back`, `refusal_back`, `entry_back`). Each proof applies `table_back` to the record's table. A refusal
 -- has one of two tables, by its number.
 use mathlib.Core.Path.{◌≡◌, refl, sym, ap, ◌∙◌}
 use mathlib.Core.Bool.{Bool, true, false, cond}
@@ -10,7 +10,7 @@ use borrow.Author.Tests.{eqb-false}
 use lib.Dec.{T, eqb}
 use lib.Ieee.{Float, binary64, fits}
 use lib.Ieee.Bits.{to_bits-lt}
-use lib.IntN.{ℤ, pos}
+use lib.IntN.{ℤ}
 use lib.ListN.{get_or}
 use mir.Syntax.{w32, w64}
 use Rattle.float64.specs.Notation.{bits, bits_of}
@@ -86,7 +86,14 @@ head_back h after r =
 -- A refusal with number 12, and one with another number.
 void_refusal_from : List ℕ → Refusal
 void_refusal_from v =
-    record { job = get_or v 2 0; revision = get_or v 3 0; number = get_or v 4 0; station = signed32_of (get_or v 5 0); reason = get_or v 6 0 }
+    record {
+      job = get_or v 2 0;
+      revision = get_or v 3 0;
+      number = get_or v 4 0;
+      station = signed32_of
+          (get_or v 5 0);
+      reason = get_or v 6 0;
+    }
 
 other_refusal_from : List ℕ → Refusal
 other_refusal_from v = refusal_with (get_or v 2 0) (get_or v 3 0) (get_or v 4 0)

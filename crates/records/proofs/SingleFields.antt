@@ -1,6 +1,6 @@
 -- Shows that reading a single field of a written record returns its value, if that fits the field and whatever the other
 -- fields hold: for a head and everything that begins with one, a refusal, an answer, the chosen end of an entry, and a
--- conflict. The size and the kind of a conflict follow by computation. All other proofs apply `number-back` to the field,
+-- conflict. The size and the kind of a conflict follow by computation. All other proofs apply `number_back` to the field,
 -- with the fields before and after it as the surrounding bytes.
 use mathlib.Core.Path.{◌≡◌, refl, sym, ap, ◌∙◌}
 use mathlib.Core.List.{List, [], ◌++◌, append_assoc}
@@ -25,66 +25,66 @@ use Rattle.records.proofs.RefusalParts.{after_head, refusal_parts}
 -- ---- a head, with any bytes after it
 
 module _ (h : Head) (rest : List ℕ) where
-  abbrev from-job : List ℕ
-  from-job = bytes_of 4 h.job ++ (bytes_of 4 h.revision ++ (bytes_of 2 h.number ++ rest))
+  abbrev from_job : List ℕ
+  from_job = bytes_of 4 h.job ++ (bytes_of 4 h.revision ++ (bytes_of 2 h.number ++ rest))
 
-  head-size : h.length < 2 ^ 32 → size_of (head_bytes h ++ rest) ≡ h.length + 4
+  head_size_lem : h.length < 2 ^ 32 → size_of (head_bytes h ++ rest) ≡ h.length + 4
   unfolding head_bytes encode head_fields bytes_of
-  head-size l = ap (λ (n : ℕ). n + 4) (number_back 4 h.length [] (bytes_of 2 h.kind ++ from-job) l)
+  head_size_lem l = ap (λ (n : ℕ). n + 4) (number_back 4 h.length [] (bytes_of 2 h.kind ++ from_job) l)
 
-  head-kind : h.kind < 2 ^ 16 → kind_of (head_bytes h ++ rest) ≡ h.kind
+  head_kind : h.kind < 2 ^ 16 → kind_of (head_bytes h ++ rest) ≡ h.kind
   unfolding head_bytes encode head_fields bytes_of
-  head-kind l = number_back 2 h.kind (bytes_of 4 h.length) from-job l
+  head_kind l = number_back 2 h.kind (bytes_of 4 h.length) from_job l
 
-  head-job : h.job < 2 ^ 32 → job_of (head_bytes h ++ rest) ≡ h.job
+  head_job : h.job < 2 ^ 32 → job_of (head_bytes h ++ rest) ≡ h.job
   unfolding head_bytes encode head_fields bytes_of
-  head-job l =
+  head_job l =
       number_back 4 h.job (bytes_of 4 h.length ++ bytes_of 2 h.kind) (bytes_of 4 h.revision ++ (bytes_of 2 h.number ++ rest)) l
 
-  head-revision : h.revision < 2 ^ 32 → revision_of (head_bytes h ++ rest) ≡ h.revision
+  head_revision : h.revision < 2 ^ 32 → revision_of (head_bytes h ++ rest) ≡ h.revision
   unfolding head_bytes encode head_fields bytes_of
-  head-revision l =
+  head_revision l =
       let before = bytes_of 4 h.length ++ (bytes_of 2 h.kind ++ bytes_of 4 h.job) in
       number_back 4 h.revision before (bytes_of 2 h.number ++ rest) l
 
-  head-number : h.number < 2 ^ 16 → number_of (head_bytes h ++ rest) ≡ h.number
+  head_number : h.number < 2 ^ 16 → number_of (head_bytes h ++ rest) ≡ h.number
   unfolding head_bytes encode head_fields bytes_of
-  head-number l =
+  head_number l =
       let before = bytes_of 4 h.length ++ (bytes_of 2 h.kind ++ (bytes_of 4 h.job ++ bytes_of 4 h.revision)) in
       number_back 2 h.number before rest l
 
 -- ---- a refusal
 
 module _ (r : Refusal) where
-  abbrev refusal-head : Head
-  refusal-head = refusal_head_of r
+  abbrev refusal_head : Head
+  refusal_head = refusal_head_of r
 
-  pub refusal-size : size_of (refusal_bytes r) ≡ refusal_size r.number
+  pub refusal_size_lem : size_of (refusal_bytes r) ≡ refusal_size r.number
   unfolding refusal_head_of
-  refusal-size =
+  refusal_size_lem =
       let between = refusal_between r.number in
-      ap size_of (refusal_parts r) ∙ head-size refusal-head (after_head r) (omega arith) ∙ omega arith
+      ap size_of (refusal_parts r) ∙ head_size_lem refusal_head (after_head r) (omega arith) ∙ omega arith
 
-  pub refusal-kind : kind_of (refusal_bytes r) ≡ refusal_kind
+  pub refusal_kind_lem : kind_of (refusal_bytes r) ≡ refusal_kind
   unfolding refusal_head_of
-  refusal-kind = ap kind_of (refusal_parts r) ∙ head-kind refusal-head (after_head r) (omega arith)
+  refusal_kind_lem = ap kind_of (refusal_parts r) ∙ head_kind refusal_head (after_head r) (omega arith)
 
-  pub refusal-job : r.job < 2 ^ 32 → job_of (refusal_bytes r) ≡ r.job
+  pub refusal_job : r.job < 2 ^ 32 → job_of (refusal_bytes r) ≡ r.job
   unfolding refusal_head_of
-  refusal-job l = ap job_of (refusal_parts r) ∙ head-job refusal-head (after_head r) l
+  refusal_job l = ap job_of (refusal_parts r) ∙ head_job refusal_head (after_head r) l
 
-  pub refusal-revision : r.revision < 2 ^ 32 → revision_of (refusal_bytes r) ≡ r.revision
+  pub refusal_revision : r.revision < 2 ^ 32 → revision_of (refusal_bytes r) ≡ r.revision
   unfolding refusal_head_of
-  refusal-revision l = ap revision_of (refusal_parts r) ∙ head-revision refusal-head (after_head r) l
+  refusal_revision l = ap revision_of (refusal_parts r) ∙ head_revision refusal_head (after_head r) l
 
   pub refusal_number : r.number < 2 ^ 16 → number_of (refusal_bytes r) ≡ r.number
   unfolding refusal_head_of
-  refusal_number l = ap number_of (refusal_parts r) ∙ head-number refusal-head (after_head r) l
+  refusal_number l = ap number_of (refusal_parts r) ∙ head_number refusal_head (after_head r) l
 
   -- A field of the head has the same value if more bytes follow the refusal.
-  pub refusal-front : (f : Field) (rest : List ℕ) → f.offset + f.width ≤ head_size →
+  pub refusal_front : (f : Field) (rest : List ℕ) → f.offset + f.width ≤ head_size →
       value_of f (refusal_bytes r ++ rest) ≡ value_of f (refusal_bytes r)
-  refusal-front f rest within =
+  refusal_front f rest within =
       number_front f.width f.offset (refusal_bytes r) rest (omega (arith, refusal_length r, refusal_between r.number))
 
 -- ---- an answer
@@ -93,17 +93,17 @@ module _ (job revision : ℕ) (es : List Entry) (few : length es ≤ most_entrie
   abbrev head_of : Head
   head_of = answer_head_of job revision (length es)
 
-  pub answer-size : size_of (answer_bytes job revision es) ≡ answer_size (length es)
+  pub answer_size_lem : size_of (answer_bytes job revision es) ≡ answer_size (length es)
   unfolding answer_bytes answer_head_of
-  answer-size = head-size head_of (entries_bytes es) (omega arith) ∙ omega arith
+  answer_size_lem = head_size_lem head_of (entries_bytes es) (omega arith) ∙ omega arith
 
-  pub answer-kind : kind_of (answer_bytes job revision es) ≡ answer_kind
+  pub answer_kind_lem : kind_of (answer_bytes job revision es) ≡ answer_kind
   unfolding answer_bytes answer_head_of
-  answer-kind = head-kind head_of (entries_bytes es) (omega arith)
+  answer_kind_lem = head_kind head_of (entries_bytes es) (omega arith)
 
-  pub answer-number : number_of (answer_bytes job revision es) ≡ length es
+  pub answer_number : number_of (answer_bytes job revision es) ≡ length es
   unfolding answer_bytes answer_head_of
-  answer-number = head-number head_of (entries_bytes es) (omega arith)
+  answer_number = head_number head_of (entries_bytes es) (omega arith)
 
 -- The chosen end of an entry, with any bytes before and after the entry.
 pub chosen_back : (before : List ℕ) (e : Entry) (after : List ℕ) → e.chosen < 2 ^ 32 →
@@ -120,21 +120,21 @@ chosen_back before e after h =
 -- ---- a conflict
 
 module _ (job revision : ℕ) where
-  abbrev conflict-start : List ℕ
-  conflict-start = bytes_of 4 (length_for conflict_size) ++ bytes_of 2 conflict_kind
+  abbrev conflict_start : List ℕ
+  conflict_start = bytes_of 4 (length_for conflict_size) ++ bytes_of 2 conflict_kind
 
-  pub conflict-size : size_of (conflict_bytes job revision) ≡ conflict_size
+  pub conflict_size_lem : size_of (conflict_bytes job revision) ≡ conflict_size
   unfolding conflict_bytes conflict_fields encode bytes_of number_at
-  conflict-size = refl
+  conflict_size_lem = refl
 
-  pub conflict-kind : kind_of (conflict_bytes job revision) ≡ conflict_kind
+  pub conflict_kind_lem : kind_of (conflict_bytes job revision) ≡ conflict_kind
   unfolding conflict_bytes conflict_fields encode bytes_of number_at
-  conflict-kind = refl
+  conflict_kind_lem = refl
 
-  pub conflict-job : job < 2 ^ 32 → job_of (conflict_bytes job revision) ≡ job
+  pub conflict_job : job < 2 ^ 32 → job_of (conflict_bytes job revision) ≡ job
   unfolding conflict_bytes conflict_fields encode bytes_of
-  conflict-job h = number_back 4 job conflict-start (bytes_of 4 revision ++ []) h
+  conflict_job h = number_back 4 job conflict_start (bytes_of 4 revision ++ []) h
 
-  pub conflict-revision : revision < 2 ^ 32 → revision_of (conflict_bytes job revision) ≡ revision
+  pub conflict_revision : revision < 2 ^ 32 → revision_of (conflict_bytes job revision) ≡ revision
   unfolding conflict_bytes conflict_fields encode bytes_of
-  conflict-revision h = number_back 4 revision (conflict-start ++ bytes_of 4 job) [] h
+  conflict_revision h = number_back 4 revision (conflict_start ++ bytes_of 4 job) [] h

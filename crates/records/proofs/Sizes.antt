@@ -1,5 +1,5 @@
 -- Shows the size of each record's bytes. An outcome is at least as long as a conflict and at most as long as the
--- longest answer (`refusal-room`, `answer-room`).
+-- longest answer (`refusal_room`, `answer_room`).
 use mathlib.Core.Path.{◌≡◌}
 use mathlib.Core.Bool.{Bool, true, false, cond}
 use Prim.Native.Nat.{ℕ, ◌≤◌}
@@ -8,7 +8,8 @@ use borrow.Author.Tests.{ne_eqb}
 use lib.Dec.{eqb}
 use lib.ListN.{length, length-append}
 use Rattle.records.specs.Layout.{encode, question_fields, head_fields, void_refusal_fields, entry_fields, conflict_fields}
-use Rattle.records.specs.Layout.{question_size, head_size, void_refusal_size, entry_size, refusal_size, answer_size, most_entries, answer_room}
+use Rattle.records.specs.Layout.{question_size, head_size, void_refusal_size, entry_size, refusal_size, answer_size, most_entries}
+use Rattle.records.specs.Layout.{answer_room}
 use Rattle.records.specs.Layout.{conflict_size, void_number}
 use Rattle.records.specs.Records.{question_bytes, head_bytes, entry_bytes, refusal_numbers, refusal_bytes, conflict_bytes}
 use Rattle.records.specs.declared.Question.{Question}

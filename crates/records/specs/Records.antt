@@ -1,5 +1,5 @@
 -- The record that the given bytes hold, and the bytes of each record (01, Records on the wire; 02, A1 and A4). Definitions only.
-use Rattle.std.specs.Prelude.{ℕ, ◌+◌, cond, List, [], ◌∷◌, ◌++◌, eqb, pos, length}
+use Rattle.std.specs.Prelude.{ℕ, cond, List, [], ◌∷◌, ◌++◌, eqb, pos, length}
 use Rattle.float64.specs.Notation.{bits, bits_of}
 use Rattle.float64.specs.declared.Vector.{Vector}
 use Rattle.little_endian.specs.Bytes.{signed_bits, signed_of, signed32_bits, signed32_of}

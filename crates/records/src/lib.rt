@@ -1,6 +1,8 @@
 // Reading and writing the records of 01 and 02, and the conflict of a board's slot (02, A1). Reading accepts any bytes, and
 // a byte past the end counts as 0. Writing starts at the first byte of the buffer. If the buffer is too short, a
 // write changes nothing and returns false.
+#![tactic(auto)]
+
 ghost use Rattle.std.specs.Prelude.{◌≡◌};
 ghost use Rattle.records.specs.Constants.{layout_constants};
 
@@ -64,7 +66,7 @@ pub const VOID_NUMBER: u16 = 12;
 
 // A question (kind 1). `way` is 0 for the short way and 1 for the long way. The positions
 // r1 and r2 are in km, `mu` in km^3/s^2 and `time` in s.
-#[derive(Drop)]
+#[derive(Clone, Copy)]
 pub struct Question {
     pub length: u32,
     pub kind: u16,
@@ -81,7 +83,7 @@ pub struct Question {
 
 // The head of a refusal (kind 3) or of an answer (kind 2). `number` is the number of the
 // refusal, or the number of entries of the answer.
-#[derive(Drop)]
+#[derive(Clone, Copy)]
 pub struct Head {
     pub length: u32,
     pub kind: u16,
@@ -92,7 +94,7 @@ pub struct Head {
 
 // A refusal (kind 3). `station` is j of the first void station and `reason` says why it is void. Only a refusal with
 // number 12 has both on the wire. For any other number reading gives 0 for both, and writing leaves both out.
-#[derive(Drop)]
+#[derive(Clone, Copy)]
 pub struct Refusal {
     pub job: u32,
     pub revision: u32,
@@ -103,7 +105,7 @@ pub struct Refusal {
 
 // An entry of an answer: the lower end of the bracket, the number of halvings, the chosen end (0 is the lower end, 1
 // the upper end), and the velocities there in km/s.
-#[derive(Drop)]
+#[derive(Clone, Copy)]
 pub struct Entry {
     pub lower: i64,
     pub halvings: u32,
@@ -113,7 +115,7 @@ pub struct Entry {
 }
 
 // The values of the public constants.
-#[derive(Drop)]
+#[derive(Clone, Copy)]
 struct Constants {
     question_kind: u16,
     answer_kind: u16,

@@ -1,0 +1,7 @@
+-- `heads::answer_head` meets its contract. This follows from the contract of `answer_size`.
+use Rattle.records.specs.Records.{answer_head_of}
+use Rattle.records.proofs.heads.answer_head.Goals as goal
+
+pub returns : goal.returns
+unfolding answer_head_of
+returns c = simp c.answer_size.ensures
