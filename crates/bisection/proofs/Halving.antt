@@ -86,31 +86,31 @@ module _ (a : ℤ) (n : ℕ) where
   twice : top ≡ a +ℤ pos (2 ^ n + 2 ^ n)
   twice = ap (λ (k : ℕ). a +ℤ pos k) (double n)
 
-  pub up-twice : middle +ℤ pos (2 ^ n) ≡ top
-  up-twice = +ℤ_assoc a (pos (2 ^ n)) (pos (2 ^ n)) ∙ sym twice
+  pub up_twice : middle +ℤ pos (2 ^ n) ≡ top
+  up_twice = +ℤ_assoc a (pos (2 ^ n)) (pos (2 ^ n)) ∙ sym twice
 
   pub sum_is : a +ℤ top ≡ middle +ℤ middle
   sum_is = ap (λ (z : ℤ). a +ℤ z) twice ∙ sum_twice a (2 ^ n)
 
-  pub middle-is : middle_of a top ≡ middle
-  middle-is = ap (λ (z : ℤ). quot_z z (pos 2)) sum_is ∙ quot_twice middle
+  pub middle_is : middle_of a top ≡ middle
+  middle_is = ap (λ (z : ℤ). quot_z z (pos 2)) sum_is ∙ quot_twice middle
 
   not_low : middle ≡ a → ⊥
   not_low e = omega (arith, up_same a (2 ^ n) e, pow_pos n)
 
-  not-high : middle ≡ top → ⊥
-  not-high e = omega (arith, up_same middle (2 ^ n) (up-twice ∙ sym e), pow_pos n)
+  not_high : middle ≡ top → ⊥
+  not_high e = omega (arith, up_same middle (2 ^ n) (up_twice ∙ sym e), pow_pos n)
 
   wide : same (top -ℤ a) (pos 1) ≡ false
   wide = rw (up_less a (2 ^ suc n)) (ne_eqb (2 ^ suc n) 1 (λ e. omega (arith, e, double n, pow_pos n)))
 
   module _ (σ : ℤ → Side) where
     -- Halving stops exactly if the middle is void.
-    pub stops-is : stops σ a top ≡ is_unknown (σ middle)
-    stops-is = rw (wide, middle-is, same_no middle a not_low, same_no middle top not-high) (or-false (is_unknown (σ middle)))
+    pub stops_is : stops σ a top ≡ is_unknown (σ middle)
+    stops_is = rw (wide, middle_is, same_no middle a not_low, same_no middle top not_high) (or-false (is_unknown (σ middle)))
 
     pub step : (h : ℕ) → bisect_of σ (suc n) h a top
         ≡ cond (is_unknown (σ middle)) (record { lower = a; upper = top; halvings = h })
         (cond (opposite (σ a) (σ middle)) (bisect_of σ n (h + 1) a middle) (bisect_of σ n (h + 1) middle top))
     unfolding bisect_of
-    step h = rw (stops-is, middle-is)
+    step h = rw (stops_is, middle_is)

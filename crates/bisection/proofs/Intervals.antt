@@ -1,6 +1,6 @@
 -- The steps of `bisect` on an interval that meets its precondition. The width and the middle that the machine computes are those of the
--- definition (`width-bits`, `mid-read`). Each half meets the precondition again (`lower-next`, `upper-next`). Each branch of the code
--- returns what the definition gives (`at_one`, `at-void`, `in-lower`, `in-upper`).
+-- definition (`width_bits`, `mid_read`). Each half meets the precondition again (`lower_next`, `upper_next`). Each branch of the code
+-- returns what the definition gives (`at_one`, `at_void`, `in_lower`, `in_upper`).
 use mathlib.Core.Path.{◌≡◌, refl, sym, ap, ◌∙◌, subst}
 use mathlib.Core.Bool.{true, false, cond}
 use Prim.Native.Nat.{ℕ, zero, suc, ◌+◌, ◌-◌, ◌^◌, ◌≤◌, ◌<◌}
@@ -17,8 +17,8 @@ use Rattle.stations.specs.Stations.{farthest}
 use Rattle.bisection.specs.Halving.{with_side, bisect_of}
 use Rattle.bisection.specs.Interval.{Interval}
 use Rattle.stations.proofs.Places.{mag_add}
-use Rattle.bisection.proofs.Halving.{double, up_less, middle, top, up-twice, sum_is, middle-is, step, mag_twice}
-use Rattle.bisection.proofs.LowerSide.{at-lower, own_side, at-middle, upper-half}
+use Rattle.bisection.proofs.Halving.{double, up_less, middle, top, up_twice, sum_is, middle_is, step, mag_twice}
+use Rattle.bisection.proofs.LowerSide.{at_lower, own_side, at_middle, upper_half}
 
 -- The precondition still holds if the ends are replaced by equal numbers.
 pub renamed : {a b x y : ℤ} {h : ℕ} → x ≡ a → y ≡ b → Interval a b h → Interval x y h
@@ -44,8 +44,13 @@ module _ {a b : ℤ} {h : ℕ} (v : Interval a b h) where
     pub width_fits : SFits w64 (to_z w64 (of_z w64 b) -ℤ to_z w64 (of_z w64 a))
     width_fits = rw width_read (record { sfits = omega (arith, v.room) })
 
-    pub width-bits : of_z w64 (to_z w64 (of_z w64 b) -ℤ to_z w64 (of_z w64 a)) ≡ 2 ^ (20 - h)
-    width-bits = ap (of_z w64) width_read
+    pub width_bits : of_z w64 (to_z w64 (of_z w64 b) -ℤ to_z w64 (of_z w64 a)) ≡ 2 ^ (20 - h)
+    width_bits = ap (of_z w64) width_read
+
+    -- The same for the width that the machine computes.
+    pub stops_at_one : (σ : ℤ → Side) → of_z w64 (to_z w64 (of_z w64 b) -ℤ to_z w64 (of_z w64 a)) ≡ 1 →
+        record { lower = to_z w64 (of_z w64 a); upper = to_z w64 (of_z w64 b); halvings = h } ≡ bisect_of σ (20 - h) h a b
+    stops_at_one σ e = rw (to_z-of_z fa, to_z-of_z fb) (at_one σ (sym width_bits ∙ e))
 
   module _ (more : 2 ^ (20 - h) ≡ 1 → ⊥) where
     left_by : (k : ℕ) → 20 - h ≡ k → h < 20
@@ -68,40 +73,40 @@ module _ {a b : ℤ} {h : ℕ} (v : Interval a b h) where
     whole : 2 ^ (20 - h) ≡ 2 ^ (20 - (h + 1)) + 2 ^ (20 - (h + 1))
     whole = ap (λ (j : ℕ). 2 ^ j) rest ∙ double (20 - (h + 1))
 
-    mid-room : mag mid + 2 ^ (20 - (h + 1)) ≤ farthest
-    mid-room = omega (arith, mag_add a (2 ^ (20 - (h + 1))), v.room, whole)
+    mid_room : mag mid + 2 ^ (20 - (h + 1)) ≤ farthest
+    mid_room = omega (arith, mag_add a (2 ^ (20 - (h + 1))), v.room, whole)
 
     module _ (fa : SFits w64 a) (fb : SFits w64 b) where
-      sum-read : to_z w64 (of_z w64 a) +ℤ to_z w64 (of_z w64 b) ≡ mid +ℤ mid
-      sum-read = rw (to_z-of_z fa, to_z-of_z fb) (ap (λ (z : ℤ). a +ℤ z) upper_is ∙ sum_is a (20 - (h + 1)))
+      sum_read : to_z w64 (of_z w64 a) +ℤ to_z w64 (of_z w64 b) ≡ mid +ℤ mid
+      sum_read = rw (to_z-of_z fa, to_z-of_z fb) (ap (λ (z : ℤ). a +ℤ z) upper_is ∙ sum_is a (20 - (h + 1)))
 
       pub sum_fits : SFits w64 (to_z w64 (of_z w64 a) +ℤ to_z w64 (of_z w64 b))
-      sum_fits = rw sum-read (record { sfits = omega (arith, mag_twice mid, mid-room) })
+      sum_fits = rw sum_read (record { sfits = omega (arith, mag_twice mid, mid_room) })
 
       -- The middle as the code computes it.
       abbrev pub halfway : ℤ
       halfway = quot_z (to_z w64 (of_z w64 (to_z w64 (of_z w64 a) +ℤ to_z w64 (of_z w64 b)))) (pos 2)
 
-      halfway-is : halfway ≡ mid
-      halfway-is =
-          ap (λ (z : ℤ). quot_z z (pos 2)) (to_z-of_z sum_fits ∙ sum-read ∙ sym (sum_is a (20 - (h + 1))))
-          ∙ middle-is a (20 - (h + 1))
+      halfway_is : halfway ≡ mid
+      halfway_is =
+          ap (λ (z : ℤ). quot_z z (pos 2)) (to_z-of_z sum_fits ∙ sum_read ∙ sym (sum_is a (20 - (h + 1))))
+          ∙ middle_is a (20 - (h + 1))
 
-      pub halfway-fits : SFits w64 halfway
-      halfway-fits = rw halfway-is (record { sfits = omega (arith, mid-room) })
+      pub halfway_fits : SFits w64 halfway
+      halfway_fits = rw halfway_is (record { sfits = omega (arith, mid_room) })
 
-      pub mid-read : to_z w64 (of_z w64 halfway) ≡ mid
-      mid-read = to_z-of_z halfway-fits ∙ halfway-is
+      pub mid_read : to_z w64 (of_z w64 halfway) ≡ mid
+      mid_read = to_z-of_z halfway_fits ∙ halfway_is
 
-    pub lower-next : Interval a mid (h + 1)
-    lower-next = record { upper_is = refl; most = omega (arith, left); room = omega (arith, v.room, whole) }
+    pub lower_next : Interval a mid (h + 1)
+    lower_next = record { upper_is = refl; most = omega (arith, left); room = omega (arith, v.room, whole) }
 
-    pub upper-next : Interval mid b (h + 1)
-    upper-next =
+    pub upper_next : Interval mid b (h + 1)
+    upper_next =
         record {
-          upper_is = upper_is ∙ sym (up-twice a (20 - (h + 1)));
+          upper_is = upper_is ∙ sym (up_twice a (20 - (h + 1)));
           most = omega (arith, left);
-          room = mid-room;
+          room = mid_room;
         }
 
     -- Here the lower end counts as being on the side `low`, and s is the side of the middle.
@@ -115,16 +120,16 @@ module _ {a b : ℤ} {h : ℕ} (v : Interval a b h) where
           let whole-step : bisect_of (with_side σ a low) (20 - h) h a (top a n) ≡ bisect_of (with_side σ a low) (suc n) h a (top a n) =
           ap (λ (k : ℕ). bisect_of (with_side σ a low) k h a (top a n)) rest in
           let by-definition = step a n (with_side σ a low) h in
-          let above = upper-half σ a low n (h + 1) in
-          rw (upper_is, whole-step, by-definition, here, own_side σ mid, above, at-middle σ a low n h, at-lower σ a low)
+          let above = upper_half σ a low n (h + 1) in
+          rw (upper_is, whole-step, by-definition, here, own_side σ mid, above, at_middle σ a low n h, at_lower σ a low)
 
-      pub at-void : is_unknown s ≡ true → record { lower = a; upper = b; halvings = h } ≡ bisect_of (with_side σ a low) (20 - h) h a b
-      at-void e = sym (halves ∙ rw e)
+      pub at_void : is_unknown s ≡ true → record { lower = a; upper = b; halvings = h } ≡ bisect_of (with_side σ a low) (20 - h) h a b
+      at_void e = sym (halves ∙ rw e)
 
-      pub in-lower : is_unknown s ≡ false → opposite low s ≡ true →
+      pub in_lower : is_unknown s ≡ false → opposite low s ≡ true →
           bisect_of (with_side σ a low) (20 - (h + 1)) (h + 1) a mid ≡ bisect_of (with_side σ a low) (20 - h) h a b
-      in-lower e o = sym (halves ∙ rw (e, o))
+      in_lower e o = sym (halves ∙ rw (e, o))
 
-      pub in-upper : is_unknown s ≡ false → opposite low s ≡ false →
+      pub in_upper : is_unknown s ≡ false → opposite low s ≡ false →
           bisect_of (with_side σ mid s) (20 - (h + 1)) (h + 1) mid b ≡ bisect_of (with_side σ a low) (20 - h) h a b
-      in-upper e o = sym (halves ∙ rw (e, o))
+      in_upper e o = sym (halves ∙ rw (e, o))

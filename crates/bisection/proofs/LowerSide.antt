@@ -1,6 +1,6 @@
 -- The bisection of an interval whose lower end counts as being on a given side. Bisection depends on no place below its interval
--- (`agree`), so the given side has no effect on the upper half (`upper-half`). With the lower end's own side it is the bisection of 01
--- (`own-side`, `own-bracket`).
+-- (`agree`), so the given side has no effect on the upper half (`upper_half`). With the lower end's own side it is the bisection of 01
+-- (`own_side`, `own_bracket`).
 use mathlib.Core.Path.{◌≡◌, refl, sym, ap, ◌∙◌, subst, fun_ext}
 use mathlib.Core.Bool.{Bool, true, false, cond}
 use Prim.Native.Nat.{ℕ, zero, suc, ◌+◌, ◌^◌, ◌<◌}
@@ -12,7 +12,7 @@ use Rattle.stations.specs.declared.side.Side.{Side}
 use Rattle.stations.specs.Grid.{Grid}
 use Rattle.bisection.specs.Halving.{same, with_side, bisect_of}
 use Rattle.bisection.specs.Pairs.{bracket_of, bracket_from}
-use Rattle.bisection.proofs.Halving.{up_same, same_no, middle, top, up-twice, step}
+use Rattle.bisection.proofs.Halving.{up_same, same_no, middle, top, up_twice, step}
 
 -- ---- sides with that of the lower end replaced
 
@@ -27,9 +27,9 @@ same_is (pos a) (negsuc b) e = cc
 same_is (negsuc a) (pos b) e = cc
 
 module _ (σ : ℤ → Side) (a : ℤ) (low : Side) where
-  pub at-lower : with_side σ a low a ≡ low
+  pub at_lower : with_side σ a low a ≡ low
   unfolding with_side
-  at-lower = rw (same_yes a)
+  at_lower = rw (same_yes a)
 
   pub above_lower : (d : ℕ) → 0 < d → with_side σ a low (a +ℤ pos d) ≡ σ (a +ℤ pos d)
   unfolding with_side
@@ -60,25 +60,25 @@ agree σ τ zero h a f = none_left σ h a (a +ℤ pos 1) ∙ sym (none_left τ h
 agree σ τ (suc n) h a f =
     let lower : σ a ≡ τ a = subst (λ (z : ℤ). σ z ≡ τ z) (+ℤ_idr a) (f 0) in
     let here : σ (middle a n) ≡ τ (middle a n) = f (2 ^ n) in
-    let in-lower : bisect_of σ n (h + 1) a (middle a n) ≡ bisect_of τ n (h + 1) a (middle a n) = agree σ τ n (h + 1) a f in
-    let from-middle : (d : ℕ) → σ (middle a n +ℤ pos d) ≡ τ (middle a n +ℤ pos d) =
+    let in_lower : bisect_of σ n (h + 1) a (middle a n) ≡ bisect_of τ n (h + 1) a (middle a n) = agree σ τ n (h + 1) a f in
+    let from_middle : (d : ℕ) → σ (middle a n +ℤ pos d) ≡ τ (middle a n +ℤ pos d) =
     λ d. subst (λ (z : ℤ). σ z ≡ τ z) (sym (+ℤ_assoc a (pos (2 ^ n)) (pos d))) (f (2 ^ n + d)) in
-    let above = agree σ τ n (h + 1) (middle a n) from-middle in
-    let in-upper : bisect_of σ n (h + 1) (middle a n) (top a n) ≡ bisect_of τ n (h + 1) (middle a n) (top a n) =
-    subst (λ (z : ℤ). bisect_of σ n (h + 1) (middle a n) z ≡ bisect_of τ n (h + 1) (middle a n) z) (up-twice a n) above in
-    rw (step a n σ h, step a n τ h, in-lower, in-upper, lower, here)
+    let above = agree σ τ n (h + 1) (middle a n) from_middle in
+    let in_upper : bisect_of σ n (h + 1) (middle a n) (top a n) ≡ bisect_of τ n (h + 1) (middle a n) (top a n) =
+    subst (λ (z : ℤ). bisect_of σ n (h + 1) (middle a n) z ≡ bisect_of τ n (h + 1) (middle a n) z) (up_twice a n) above in
+    rw (step a n σ h, step a n τ h, in_lower, in_upper, lower, here)
 
 -- From the middle upwards, the side given to the lower end has no effect.
 module _ (σ : ℤ → Side) (a : ℤ) (low : Side) (n h : ℕ) where
-  pub at-middle : with_side σ a low (middle a n) ≡ σ (middle a n)
-  at-middle = above_lower σ a low (2 ^ n) (omega (arith, pow_pos n))
+  pub at_middle : with_side σ a low (middle a n) ≡ σ (middle a n)
+  at_middle = above_lower σ a low (2 ^ n) (omega (arith, pow_pos n))
 
-  from-middle : (d : ℕ) → with_side σ a low (middle a n +ℤ pos d) ≡ σ (middle a n +ℤ pos d)
-  from-middle d =
+  from_middle : (d : ℕ) → with_side σ a low (middle a n +ℤ pos d) ≡ σ (middle a n +ℤ pos d)
+  from_middle d =
       subst (λ (z : ℤ). with_side σ a low z ≡ σ z) (sym (+ℤ_assoc a (pos (2 ^ n)) (pos d)))
       (above_lower σ a low (2 ^ n + d) (omega (arith, pow_pos n)))
 
-  pub upper-half : bisect_of (with_side σ a low) n h (middle a n) (top a n) ≡ bisect_of σ n h (middle a n) (top a n)
-  upper-half =
-      subst (λ (z : ℤ). bisect_of (with_side σ a low) n h (middle a n) z ≡ bisect_of σ n h (middle a n) z) (up-twice a n)
-      (agree (with_side σ a low) σ n h (middle a n) from-middle)
+  pub upper_half : bisect_of (with_side σ a low) n h (middle a n) (top a n) ≡ bisect_of σ n h (middle a n) (top a n)
+  upper_half =
+      subst (λ (z : ℤ). bisect_of (with_side σ a low) n h (middle a n) z ≡ bisect_of σ n h (middle a n) z) (up_twice a n)
+      (agree (with_side σ a low) σ n h (middle a n) from_middle)

@@ -17,6 +17,6 @@ unfoldable pub bracket_of : (ℤ → Side) → Grid → ℕ → Bracket
 bracket_of σ g i = bisect_of σ (20 - g.halvings i) (g.halvings i) (g.place i) (g.place (i + 1))
 
 -- The bracket of a pair if its lower place counts as being on the side `low`. With the place's own side this is the bracket of the pair:
--- see `own-bracket` in proofs/LowerSide.
+-- see `own_bracket` in proofs/LowerSide.
 unfoldable pub bracket_from : (ℤ → Side) → Side → Grid → ℕ → Bracket
 bracket_from σ low g i = bracket_of (with_side σ (g.place i) low) g i

@@ -1,5 +1,7 @@
 // The bisection of a pair of neighbouring stations (01, Stations, sides, crossings). The interval
 // where it stops is the bracket of the pair.
+#![tactic(auto)]
+
 ghost use Rattle.std.specs.Prelude.{◌≡◌, ◌-◌};
 ghost use Rattle.stations.specs.Grid.{stations};
 ghost use Rattle.stations.specs.Sides.{side_at};
@@ -12,7 +14,7 @@ use stations::{Search, Side, are_opposite, is_unknown, side_at, station};
 
 // A bracket: the interval where the bisection of a pair stops, and how many times the pair was
 // halved.
-#[derive(Drop)]
+#[derive(Clone, Copy)]
 pub struct Bracket {
     pub lower: i64,
     pub upper: i64,
@@ -32,6 +34,7 @@ pub fn bracket_of(search: Search, low: Side, i: u16) -> Bracket
 // Bisects the interval from a to b, which is the result of h halvings so far. `low` is the side of
 // the lower end a. In an interval wider than 1 the middle is never an end, so the code has no
 // branch for that.
+#[tactic(auto, using(crate::proofs::Intervals::stops_at_one))]
 fn bisect(search: Search, low: Side, a: i64, b: i64, h: u32) -> Bracket
     requires { Interval a b h }
     ensures { result ≡ bisect_of (with_side (side_at search) a low) (20 - h) h a b }

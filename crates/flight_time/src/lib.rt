@@ -1,5 +1,7 @@
 // The time at one place of a triangle (01, Time at one place): the non-dimensional time of flight
 // at x = k / 2^32, or void if the steps give no time.
+#![tactic(auto)]
+
 ghost use Rattle.std.specs.Prelude.{◌≡◌};
 ghost use Rattle.flight_time.specs.Steps.{outside_range, x_of, u_of, direct_of};
 ghost use Rattle.flight_time.specs.Time.{time_of, place_bits};
@@ -12,7 +14,7 @@ use revolutions::with_revolutions;
 
 // The result at one place: a time, which is a finite number, or void. A void place carries the
 // reason why it has no time.
-#[derive(Drop)]
+#[derive(Clone, Copy)]
 pub enum Place {
     Timed(f64),
     Void(Reason),

@@ -1,5 +1,5 @@
--- The stations rise by 2^20 from each to the next (`stations-rise`), and so the grid of every search rises (`grid-rises`). For every
--- place k of that grid, `mag k` is at most 2^40 (`grid-room`). `mag k` is k for k from 0 up, and -(k + 1) for a negative k.
+-- The stations rise by 2^20 from each to the next (`stations_rise`), and so the grid of every search rises (`grid_rises`). For every
+-- place k of that grid, `mag k` is at most 2^40 (`grid_room`). `mag k` is k for k from 0 up, and -(k + 1) for a negative k.
 use Prim.Native.Nat.{ℕ, ◌≤◌}
 use native.Mathlib.Omega.{arith}
 use lib.Signed.{mag}

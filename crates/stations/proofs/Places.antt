@@ -1,7 +1,7 @@
 -- For every index that fits in a u16, `mag` of the station's place plus the spacing is at most 2^40, so an i64 holds the place with room
--- to spare (`station-room`). This follows from bounds on `mag` of sums and products. `mag k` is k for k from 0 up, and -(k + 1) for a
--- negative k. The other lemmas are about the j of a station (`j-is`), the next station (`next-station`), the upper station of a pair as
--- the code computes it (`upper-read`), and the last index (`last-small`).
+-- to spare (`station_room`). This follows from bounds on `mag` of sums and products. `mag k` is k for k from 0 up, and -(k + 1) for a
+-- negative k. The other lemmas are about the j of a station (`j_is_lem`), the next station (`next_station`), the upper station of a pair
+-- as the code computes it (`upper_read`), and the last index (`last_small`).
 use mathlib.Core.Path.{◌≡◌, refl, sym, ap, ◌∙◌}
 use mathlib.Core.Bool.{Bool, true, false, cond, not}
 use Prim.Native.Nat.{ℕ, zero, suc, ◌+◌, ◌*◌, ◌-◌, ◌/◌, ◌≤◌, ◌<◌, zero-le}
@@ -43,11 +43,11 @@ mag_times (negsuc a) n = omega (arith, mag_neg (suc a * n))
 
 -- The sum of an index and a first j, as the code computes it.
 module _ (i : ℕ) (first : ℤ) (h : i < 65536) (f : mag first < 65536) where
-  pub sum-read : to_z w64 i +ℤ first ≡ pos i +ℤ first
-  sum-read = ap (λ z. z +ℤ first) (to_z_pos w64 (omega arith))
+  pub sum_read : to_z w64 i +ℤ first ≡ pos i +ℤ first
+  sum_read = ap (λ z. z +ℤ first) (to_z_pos w64 (omega arith))
 
   pub sum_fits : SFits w64 (to_z w64 i +ℤ first)
-  sum_fits = rw sum-read (record { sfits = omega (arith, mag_from i first, h, f) })
+  sum_fits = rw sum_read (record { sfits = omega (arith, mag_from i first, h, f) })
 
 -- The quotient of a multiple of the spacing by the spacing.
 quot_neg : (n : ℕ) → quot_z (neg_ℤ (pos n)) (pos station_spacing) ≡ neg_ℤ (pos (n / station_spacing))

@@ -1,6 +1,8 @@
 // Stations and sides (01, Stations, sides, crossings). The stations are the fixed places, 2^20
 // apart and rising, where a sweep computes the time. The side of a place says whether its time is
 // below the wanted time.
+#![tactic(auto)]
+
 ghost use Rattle.std.specs.Prelude.{◌≡◌};
 ghost use Rattle.stations.specs.Sides.{side_at};
 ghost use Rattle.stations.specs.Stations.{station_of, j_of, last_of};

@@ -3,7 +3,7 @@ use geometry::Triangle;
 
 // A search: it asks where the time of flight of a triangle, with the given number of whole
 // revolutions, crosses the wanted time T*.
-#[derive(Drop)]
+#[derive(Clone, Copy)]
 pub struct Search {
     pub triangle: Triangle,
     pub revolutions: u16,

@@ -8,7 +8,7 @@ use hypergeometric::Reason;
 
 // The side of a place. A place with a time is below the wanted time or not below it; an equal time
 // is not below. The side of a void place is `Unknown`, with the reason why the place is void.
-#[derive(Drop)]
+#[derive(Clone, Copy)]
 pub enum Side {
     Below,
     NotBelow,

@@ -1,5 +1,5 @@
--- How one more place changes the brackets (`brackets-next`) and the report about the times (`void-next`), and what is reported when the
--- walk ends (`all-passed`, `left_at`).
+-- How one more place changes the brackets (`brackets_next`) and the report about the times (`void_next`), and what is reported when the
+-- walk ends (`all_passed`, `left_at`).
 use mathlib.Core.Path.{◌≡◌, refl, sym, ap, ◌∙◌}
 use mathlib.Core.Bool.{Bool, true, false, cond}
 use mathlib.Core.List.{List, [], ◌∷◌, ◌++◌, map, append_assoc, append-nil}
@@ -60,19 +60,19 @@ or_assoc (SomeVoid station) b c = refl
 or_assoc NinthFound b c = refl
 
 module _ (σ : ℤ → Side) (g : Grid) where
-  void-append : (is js : List ℕ) → first_void σ g (is ++ js) ≡ or_later (first_void σ g is) (first_void σ g js)
+  void_append : (is js : List ℕ) → first_void σ g (is ++ js) ≡ or_later (first_void σ g is) (first_void σ g js)
   unfolding first_void
-  void-append [] js = refl
-  void-append (i ∷ is) js =
+  void_append [] js = refl
+  void_append (i ∷ is) js =
       let first = void_at (σ (g.place i)) (g.place i) in
-      ap (or_later first) (void-append is js) ∙ sym (or_assoc first (first_void σ g is) (first_void σ g js))
+      ap (or_later first) (void_append is js) ∙ sym (or_assoc first (first_void σ g is) (first_void σ g js))
 
-  pub void-next : (i : ℕ) →
+  pub void_next : (i : ℕ) →
       first_void σ g (up_to (i + 1)) ≡ or_later (first_void σ g (up_to i)) (void_at (σ (g.place i)) (g.place i))
   unfolding first_void
-  void-next i =
+  void_next i =
       ap (first_void σ g) (up_next i)
-      ∙ void-append (up_to i) (i ∷ [])
+      ∙ void_append (up_to i) (i ∷ [])
       ∙ ap (or_later (first_void σ g (up_to i))) (or_timed (void_at (σ (g.place i)) (g.place i)))
 
 -- ---- the list of eight elements
@@ -106,9 +106,9 @@ a_ninth bs rest b passed all h =
 -- ---- the places of any grid
 
 module _ (σ : ℤ → Side) (g : Grid) where
-  pub brackets-next : (i : ℕ) → brackets σ g (i + 1) ≡ brackets σ g i ++ cond (crosses σ g i) (bracket_of σ g i ∷ []) []
+  pub brackets_next : (i : ℕ) → brackets σ g (i + 1) ≡ brackets σ g i ++ cond (crosses σ g i) (bracket_of σ g i ∷ []) []
   unfolding brackets crossings
-  brackets-next i =
+  brackets_next i =
       ap (map (bracket_of σ g)) (keep_next (crosses σ g) i)
       ∙ map_append (bracket_of σ g) (crossings σ g i) (cond (crosses σ g i) (i ∷ []) [])
       ∙ ap (λ bs. brackets σ g i ++ bs) (map_cond (bracket_of σ g) (crosses σ g i) i)
@@ -121,16 +121,20 @@ module _ (σ : ℤ → Side) (g : Grid) where
       let more = cond (crosses σ g (i + k)) (bracket_of σ g (i + k) ∷ []) [] in (
         r.0 ++ more,
         ap (brackets σ g) (sym (add_assoc i k 1 ∙ ap (λ (j : ℕ). i + j) (add-one k)))
-            ∙ brackets-next (i + k)
+            ∙ brackets_next (i + k)
             ∙ rw r.1 (append_assoc (brackets σ g i) r.0 more),
       )
 
   -- The result if the walk passed every place.
-  pub all-passed : (last : ℕ) → length (brackets σ g last) ≤ 8 →
-      record { list = eight (brackets σ g last); count = length (brackets σ g last); walk = walk_of false (first_void σ g (up_to (last + 1))) }
+  pub all_passed : (last : ℕ) → length (brackets σ g last) ≤ 8 →
+      record {
+        list = eight (brackets σ g last);
+        count = length (brackets σ g last);
+        walk = walk_of false (first_void σ g (up_to (last + 1)));
+      }
       ≡ sweep_of σ g last
   unfolding sweep_of
-  all-passed last h = no_ninth (brackets σ g last) (first_void σ g (up_to (last + 1))) h
+  all_passed last h = no_ninth (brackets σ g last) (first_void σ g (up_to (last + 1))) h
 
   -- The result if the walk stopped at pair i, the ninth that crosses.
   pub left_at : (i last : ℕ) (passed : Walk) → i < last → length (brackets σ g i) ≡ 8 → crosses σ g i ≡ true →
@@ -140,7 +144,7 @@ module _ (σ : ℤ → Side) (g : Grid) where
       let all = first_void σ g (up_to (last + 1)) in
       let j : last ≡ i + 1 + (last - (i + 1)) = omega arith in
       let r = later (i + 1) (last - (i + 1)) in
-      let first : brackets σ g (i + 1) ≡ brackets σ g i ++ (bracket_of σ g i ∷ []) = rw (brackets-next i, y) in
+      let first : brackets σ g (i + 1) ≡ brackets σ g i ++ (bracket_of σ g i ∷ []) = rw (brackets_next i, y) in
       a_ninth (brackets σ g i) r.0 (bracket_of σ g i) passed all e
       ∙ ap (λ bs. reported bs all)
       (sym (ap (brackets σ g) j ∙ r.1 ∙ ap (λ bs. bs ++ r.0) first ∙ append_snoc (brackets σ g i) (bracket_of σ g i) r.0))

@@ -1,5 +1,5 @@
--- The report about some places names a void place exactly if some of these places is void (`agrees`). `first_void` and `some` go through the
--- same list of indices, so the proof follows that list.
+-- The report about some places names a void place exactly if some of these places is void (`agrees`). `first_void` and `some` go through
+-- the same list of indices, so the proof follows that list.
 use mathlib.Core.Bool.{Bool, true, false, ◌||◌}
 use mathlib.Core.List.{List, [], ◌∷◌}
 use Prim.Native.Nat.{ℕ}

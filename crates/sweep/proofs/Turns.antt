@@ -1,12 +1,15 @@
--- `Passed` is the invariant of the walk over the places of a grid. It holds at the start (`starts`), each iteration keeps it (`passed`,
--- `listed`), and at the end it gives the result of the definition (`done` after the last place, `too_many` at a ninth crossing).
+-- `Passed` is the invariant of the walk over the places of a grid. It holds at the start (`starts`). Each iteration keeps it (`turned`),
+-- whether the pair below the place crosses (`listed`) or not (`passed`). At the end it gives the result of the definition (`ended`), after
+-- the last place (`done`) or at a ninth crossing (`too_many`).
 use mathlib.Core.Path.{◌≡◌, refl, sym, ap, ◌∙◌, subst}
 use mathlib.Core.Bool.{Bool, true, false, cond}
 use mathlib.Core.List.{List, [], ◌∷◌, ◌++◌, append-nil}
 use Prim.Native.Nat.{ℕ, zero, suc, ◌+◌, ◌-◌, ◌≤◌, ◌<◌}
 use native.Mathlib.Numerals.{add-one}
 use native.Mathlib.Omega.{arith}
+use borrow.Author.Tests.{leb-true, leb-false}
 use lib.Arith.{lt_of_le-ne}
+use lib.Dec.{leb}
 use lib.ListN.{length, set, length-append}
 use lib.IntN.{ℤ}
 use Rattle.bisection.specs.declared.Bracket.{Bracket}
@@ -21,7 +24,7 @@ use Rattle.sweep.specs.Crossings.{up_to, keep, crossings, brackets, blank, eight
 use Rattle.sweep.specs.Walks.{void_at, or_later, first_void, walk_of}
 use Rattle.sweep.specs.declared.walks.Walk.{Walk}
 use Rattle.sweep.specs.declared.walks.Walk.TheVariants.{AllTimed}
-use Rattle.sweep.proofs.Lists.{void-next, eight_set, brackets-next, all-passed, left_at}
+use Rattle.sweep.proofs.Lists.{void_next, eight_set, brackets_next, all_passed, left_at}
 
 -- The side of the place before place i. There is no place before the first, and for i = 0 the side counts as unknown.
 unfoldable pub before : (ℤ → Side) → Grid → ℕ → Side
@@ -56,7 +59,7 @@ added σ g (suc j) =
     let e : suc j - 1 ≡ j = omega arith in
     rw e
     (subst (λ (k : ℕ). brackets σ g k ≡ brackets σ g j ++ addition σ g j (σ (g.place j)) (σ (g.place k))) (add-one j)
-    (brackets-next σ g j))
+    (brackets_next σ g j))
 
 -- There is a pair below place i, it crosses, and the side before place i is the side of the pair's lower place.
 pub record Pair (σ : ℤ → Side) (g : Grid) (i : ℕ) : Type 0 where
@@ -81,7 +84,7 @@ module _ {σ : ℤ → Side} {g : Grid} {last : ℕ} {list : List Bracket} {coun
       let f : i ≡ last + 1 = omega (arith, v.within) in
       let few : length (brackets σ g (i - 1)) ≤ 8 = omega (arith, v.counted, v.most) in
       rw (v.found, v.counted, v.seen_is, n, e, f)
-      (all-passed σ g last (subst (λ (k : ℕ). length (brackets σ g k) ≤ 8) e few))
+      (all_passed σ g last (subst (λ (k : ℕ). length (brackets σ g k) ≤ 8) e few))
 
   module _ {high : Side} (h : high ≡ σ (g.place i)) where
     -- If the sides before and at place i are opposite, the pair below place i crosses.
@@ -89,8 +92,8 @@ module _ {σ : ℤ → Side} {g : Grid} {last : ℕ} {list : List Bracket} {coun
     pair o = pair_at σ g i (rw (v.here, h) at o)
 
     -- The bracket computed from the side of the lower place is the bracket of the pair.
-    bracket-is : {b : Bracket} → opposite low high ≡ true → b ≡ bracket_from σ low g (i - 1) → b ≡ bracket_of σ g (i - 1)
-    bracket-is o e =
+    bracket_is : {b : Bracket} → opposite low high ≡ true → b ≡ bracket_from σ low g (i - 1) → b ≡ bracket_of σ g (i - 1)
+    bracket_is o e =
         let lower : low ≡ σ (g.place (i - 1)) = v.here ∙ (pair o).lower in
         e ∙ ap (λ (s : Side). bracket_from σ s g (i - 1)) lower ∙ own_bracket σ g (i - 1)
 
@@ -116,7 +119,7 @@ module _ {σ : ℤ → Side} {g : Grid} {last : ℕ} {list : List Bracket} {coun
             found = rw e listed;
             counted = rw e counted;
             most = most;
-            seen_is = rw (u, v.seen_is, h) (sym (void-next σ g i));
+            seen_is = rw (u, v.seen_is, h) (sym (void_next σ g i));
           }
 
       -- The invariant after place i if the pair below it does not cross.
@@ -132,8 +135,36 @@ module _ {σ : ℤ → Side} {g : Grid} {last : ℕ} {list : List Bracket} {coun
           let earlier = brackets σ g (i - 1) in
           let room : count < 8 = lt_of_le-ne v.most f in
           let few : length earlier < 8 = omega (arith, v.counted, room) in
-          let one : brackets σ g i ≡ earlier ++ (b ∷ []) = added σ g i ∙ rw (← v.here, ← h, o, bracket-is o e) in
+          let one : brackets σ g i ≡ earlier ++ (b ∷ []) = added σ g i ∙ rw (← v.here, ← h, o, bracket_is o e) in
           next (set list count b) (count + 1)
           (rw (one, v.found, v.counted) (eight_set earlier b few))
           (rw one (ap (λ (k : ℕ). k + 1) v.counted ∙ sym (length-append earlier (b ∷ []))))
           (omega (arith, room))
+
+      by_sides : {list' : List Bracket} {count' : ℕ} (b : Bool) → opposite low high ≡ b →
+          (opposite low high ≡ true → list' ≡ set list count (bracket_from σ low g (i - 1))) →
+          (opposite low high ≡ true → count' ≡ count + 1) → (opposite low high ≡ true → count ≡ 8 → ⊥) →
+          (opposite low high ≡ false → list' ≡ list) → (opposite low high ≡ false → count' ≡ count) →
+          Passed σ g last list' count' now high (i + 1)
+      by_sides true o written more room kept same = rw (written o, more o) (listed o (room o) refl)
+      by_sides false o written more room kept same = rw (kept o, same o) (passed o)
+
+      -- The invariant after place i, by what the pair below it does to the list and the count.
+      pub turned : {list' : List Bracket} {count' : ℕ} →
+          (opposite low high ≡ true → list' ≡ set list count (bracket_from σ low g (i - 1))) →
+          (opposite low high ≡ true → count' ≡ count + 1) → (opposite low high ≡ true → count ≡ 8 → ⊥) →
+          (opposite low high ≡ false → list' ≡ list) → (opposite low high ≡ false → count' ≡ count) →
+          Passed σ g last list' count' now high (i + 1)
+      turned = by_sides (opposite low high) refl
+
+  by_test : (b : Bool) → leb i last ≡ b → (i ≤ last → count ≡ 8) → (i ≤ last → opposite low (σ (g.place i)) ≡ true) →
+      record { list = list; count = count; walk = walk_of (leb i last) seen } ≡ sweep_of σ g last
+  by_test true t full crossing =
+      let within : i ≤ last = leb-true i last t in
+      too_many refl t within (full within) (crossing within)
+  by_test false t full crossing = done t (leb-false i last t)
+
+  -- The walk ends after the last place, or before it at a ninth crossing.
+  pub ended : (i ≤ last → count ≡ 8) → (i ≤ last → opposite low (σ (g.place i)) ≡ true) →
+      record { list = list; count = count; walk = walk_of (leb i last) seen } ≡ sweep_of σ g last
+  ended = by_test (leb i last) refl

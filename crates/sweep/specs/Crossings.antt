@@ -1,7 +1,8 @@
 -- Crossings and their brackets (01, Stations, sides, crossings). The side of each place is a parameter σ, so these definitions depend
 -- neither on times nor on the state of a loop. Only the last one, `sweep_for`, takes the sides from the times of a search. Definitions
 -- only.
-use Rattle.std.specs.Prelude.{ℕ, zero, suc, ◌+◌, ◌-◌, min, Bool, false, cond, ◌||◌, List, [], ◌∷◌, ◌++◌, map, ltb, length, take, replicate, ℤ, pos}
+use Rattle.std.specs.Prelude.{ℕ, zero, suc, ◌+◌, ◌-◌, min, Bool, false, cond, ◌||◌, ltb, ℤ, pos}
+use Rattle.std.specs.Prelude.{List, [], ◌∷◌, ◌++◌, map, length, take, replicate}
 use Rattle.bisection.specs.declared.Bracket.{Bracket}
 use Rattle.stations.specs.declared.search.Search.{Search}
 use Rattle.stations.specs.declared.side.Side.{Side}

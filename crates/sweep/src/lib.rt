@@ -1,6 +1,8 @@
 // The sweep (01, Stations, sides, crossings) finds where the time of flight crosses the wanted
 // time. It walks over the stations in rising x and bisects each of the first eight neighbouring
 // pairs whose times are on different sides, down to a bracket.
+#![tactic(auto)]
+
 ghost use Rattle.std.specs.Prelude.{◌≡◌};
 ghost use Rattle.sweep.specs.Crossings.{sweep_for};
 
@@ -16,7 +18,7 @@ use walks::{report_with, walk_of};
 // The result of a sweep: the brackets of the first eight crossings, the lowest first. The list has
 // eight elements. The first `count` of them are used, and the others are zeros. `walk` is the report
 // about the times at the stations.
-#[derive(Drop)]
+#[derive(Clone, Copy)]
 pub struct Crossings {
     pub list: [Bracket; 8],
     pub count: usize,

@@ -8,7 +8,7 @@ use hypergeometric::Reason;
 use stations::{Side, station_j};
 
 // A void station, with the reason why it is void. Its place is k = j * 2^20.
-#[derive(Drop)]
+#[derive(Clone, Copy)]
 pub struct VoidStation {
     pub j: i32,
     pub reason: Reason,
@@ -17,7 +17,7 @@ pub struct VoidStation {
 // The report about the times at the stations: all stations have times, or some are void, and this is
 // the first of them in rising x. `NinthFound` means that the sweep stopped at a ninth crossing. In
 // that case it does not report whether a station is void.
-#[derive(Drop)]
+#[derive(Clone, Copy)]
 pub enum Walk {
     AllTimed,
     SomeVoid(VoidStation),
