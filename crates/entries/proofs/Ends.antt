@@ -1,5 +1,5 @@
--- The chosen end of a bracket's entry is 0 or 1 (`entry-names`). The entry fits its fields on the wire if the bracket's lower end and
--- halvings do (`bracket-entry-held`). The components of a velocity always fit, because they are results of rounded sums.
+-- The chosen end of a bracket's entry is 0 or 1 (`entry_names`). The entry fits its fields on the wire if the bracket's lower end and
+-- halvings do (`bracket_entry_held`). The components of a velocity always fit, because they are results of rounded sums.
 use mathlib.Core.Bool.{Bool, true, false}
 use Prim.Native.Nat.{◌^◌, ◌≤◌, ◌<◌}
 use native.Mathlib.Omega.{arith}

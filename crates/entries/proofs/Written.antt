@@ -14,7 +14,7 @@ use Rattle.records.specs.Layout.{head_size, entry_size, answer_size}
 use Rattle.records.specs.Records.{head_bytes, answer_head_of, entry_bytes, entries_bytes, answer_bytes}
 use Rattle.records.specs.declared.Entry.{Entry}
 use Rattle.records.proofs.Sizes.{head_length, entry_length}
-use Rattle.records.proofs.Answers.{entries-length, entries-append, answer-length}
+use Rattle.records.proofs.Answers.{entries_length, entries_append, answer_length}
 
 -- ---- bytes written to a part of a buffer
 
@@ -30,23 +30,23 @@ laid_part pre rest bytes n k e f h =
 -- ---- the first i entries of a list
 
 module _ (es : List Entry) where
-  abbrev bytesUpTo : ℕ → List ℕ
-  bytesUpTo i = entries_bytes (take i es)
+  abbrev bytes_up_to : ℕ → List ℕ
+  bytes_up_to i = entries_bytes (take i es)
 
   -- The head that the buffer begins with, then the first i entries, and then the buffer's own bytes after them.
   unfoldable pub so_far : ℕ → List ℕ → List ℕ
-  so_far i buffer = take head_size buffer ++ bytesUpTo i ++ drop (answer_size i) buffer
+  so_far i buffer = take head_size buffer ++ bytes_up_to i ++ drop (answer_size i) buffer
 
-  size-up : (i : ℕ) → i ≤ length es → length (bytesUpTo i) ≡ entry_size * i
-  size-up i h = entries-length (take i es) ∙ ap (λ (n : ℕ). entry_size * n) (length-take-le i es h)
+  size_up : (i : ℕ) → i ≤ length es → length (bytes_up_to i) ≡ entry_size * i
+  size_up i h = entries_length (take i es) ∙ ap (λ (n : ℕ). entry_size * n) (length-take-le i es h)
 
-  up_next : (i : ℕ) (d : Entry) → i < length es → bytesUpTo (i + 1) ≡ bytesUpTo i ++ entry_bytes (get_or es i d)
+  up_next : (i : ℕ) (d : Entry) → i < length es → bytes_up_to (i + 1) ≡ bytes_up_to i ++ entry_bytes (get_or es i d)
   unfolding entries_bytes
   up_next i d h =
       rw add-one
       (ap entries_bytes (take-suc es i d h)
-      ∙ entries-append (take i es) (get_or es i d ∷ [])
-      ∙ ap (λ l. bytesUpTo i ++ l) (append-nil (entry_bytes (get_or es i d))))
+      ∙ entries_append (take i es) (get_or es i d ∷ [])
+      ∙ ap (λ l. bytes_up_to i ++ l) (append-nil (entry_bytes (get_or es i d))))
 
   module _ (buffer : List ℕ) where
     pub starts : buffer ≡ so_far 0 buffer
@@ -55,17 +55,17 @@ module _ (es : List Entry) where
         sym (ap (λ l. l ++ drop head_size buffer) (append-nil (take head_size buffer)) ∙ take-append-drop head_size buffer)
 
     abbrev front : ℕ → List ℕ
-    front i = take head_size buffer ++ bytesUpTo i
+    front i = take head_size buffer ++ bytes_up_to i
 
-    front-size : (i : ℕ) → i ≤ length es → head_size ≤ length buffer → length (front i) ≡ answer_size i
-    front-size i few room =
-        length-append (take head_size buffer) (bytesUpTo i) ∙ rw (length-take-le head_size buffer room, size-up i few)
+    front_size : (i : ℕ) → i ≤ length es → head_size ≤ length buffer → length (front i) ≡ answer_size i
+    front_size i few room =
+        length-append (take head_size buffer) (bytes_up_to i) ∙ rw (length-take-le head_size buffer room, size_up i few)
 
-    pub size-at : (i : ℕ) → i ≤ length es → answer_size i ≤ length buffer → length (so_far i buffer) ≡ length buffer
+    pub size_at : (i : ℕ) → i ≤ length es → answer_size i ≤ length buffer → length (so_far i buffer) ≡ length buffer
     unfolding so_far
-    size-at i few room =
+    size_at i few room =
         length-append (front i) (drop (answer_size i) buffer)
-        ∙ omega (arith, front-size i few (omega (arith, room)), length-drop (answer_size i) buffer, room)
+        ∙ omega (arith, front_size i few (omega (arith, room)), length-drop (answer_size i) buffer, room)
 
     module _ (i : ℕ) (few : i < length es) (room : answer_size (i + 1) ≤ length buffer) where
       -- Writing the next entry to the part of the buffer that begins at the entry's offset gives `so_far` with one more entry.
@@ -80,12 +80,12 @@ module _ (es : List Entry) where
           let rest = drop (answer_size i) buffer in
           let long : length entry ≤ length rest = omega (arith, size, length-drop (answer_size i) buffer, room) in
           let after : answer_size i + length entry ≡ answer_size (i + 1) = omega (arith, size) in
-          let before = front-size i (omega (arith, few)) (omega (arith, room)) in
+          let before = front_size i (omega (arith, few)) (omega (arith, room)) in
           rw (e, at) (laid_part (front i) rest entry (answer_size i) (length (front i ++ rest) - answer_size i) before refl long)
           ∙ sym (append_assoc (front i) entry (drop (length entry) rest))
           ∙ ap (λ l. l ++ drop (length entry) rest)
-          (append_assoc (take head_size buffer) (bytesUpTo i) entry ∙ ap (λ l. take head_size buffer ++ l) (sym (up_next i d few)))
-          ∙ ap (λ l. take head_size buffer ++ bytesUpTo (i + 1) ++ l)
+          (append_assoc (take head_size buffer) (bytes_up_to i) entry ∙ ap (λ l. take head_size buffer ++ l) (sym (up_next i d few)))
+          ∙ ap (λ l. take head_size buffer ++ bytes_up_to (i + 1) ++ l)
           (drop-drop (length entry) (answer_size i) buffer ∙ ap (λ (n : ℕ). drop n buffer) after)
 
   -- ---- the whole answer
@@ -98,8 +98,8 @@ module _ (es : List Entry) where
     head i = head_bytes (answer_head_of job revision i)
 
     -- The size of the answer with the first i entries.
-    pub taken-size : (i : ℕ) → i ≤ length es → length (answer i) ≡ answer_size i
-    taken-size i few = answer-length job revision (take i es) ∙ ap (λ (n : ℕ). answer_size n) (length-take-le i es few)
+    pub taken_size : (i : ℕ) → i ≤ length es → length (answer i) ≡ answer_size i
+    taken_size i few = answer_length job revision (take i es) ∙ ap (λ (n : ℕ). answer_size n) (length-take-le i es few)
 
     -- If the head was written to the buffer's start, and then every entry after it, the buffer holds the whole answer.
     pub ends :
@@ -118,8 +118,8 @@ module _ (es : List Entry) where
         let entries = entry_size * count in
         let after : drop (answer_size count) first ≡ drop (answer_size count) buffer =
         sym (drop-drop entries head_size first) ∙ ap (drop entries) rest_is ∙ drop-drop entries head_size buffer in
-        let long : length (answer count) ≡ answer_size count = taken-size count few in
+        let long : length (answer count) ≡ answer_size count = taken_size count few in
         rw (front-is, after)
         (sym (laid buffer (answer count) (omega (arith, long, room))
         ∙ ap (λ (n : ℕ). answer count ++ drop n buffer) long
-        ∙ ap (λ (n : ℕ). head n ++ bytesUpTo count ++ drop (answer_size count) buffer) number))
+        ∙ ap (λ (n : ℕ). head n ++ bytes_up_to count ++ drop (answer_size count) buffer) number))

@@ -1,5 +1,7 @@
 // The entries of an answer: the chosen end of each bracket and the velocities there (01,
 // Velocities), whether all of these velocities are finite, and the answer's bytes.
+#![tactic(auto)]
+
 ghost use Rattle.std.specs.Prelude.{◌≡◌, cond, map, min, ◌≤◌, take};
 ghost use Rattle.records.specs.Layout.{most_entries};
 ghost use Rattle.entries.specs.Entries.{place_of, upper_of, takes_upper, velocities_at, end_number, entry_for, places, entry_finite, every};

@@ -1,4 +1,4 @@
--- If the number of bytes is not the size of a question, the record is the refusal with number 1, job 0 and revision 0 (`other-size`).
+-- If the number of bytes is not the size of a question, the record is the refusal with number 1, job 0 and revision 0 (`other_size`).
 use mathlib.Core.Path.{◌≡◌}
 use mathlib.Core.List.{List}
 use Prim.Native.Nat.{ℕ}

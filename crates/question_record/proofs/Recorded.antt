@@ -1,5 +1,5 @@
 -- The record of a question, if the buffer has room for the longest answer: if `solve` answers, the buffer holds the record
--- (`when-answered`); if it refuses, the buffer is untouched and the record is that of the refusal (`when-refused`, `when-void`). The record
+-- (`when_answered`); if it refuses, the buffer is untouched and the record is that of the refusal (`when_refused`, `when_void`). The record
 -- depends on neither the size nor the contents of the buffer.
 use mathlib.Core.Path.{◌≡◌, refl, sym, ap, ◌∙◌}
 use mathlib.Core.Bool.{Bool, true, false, cond}
@@ -12,9 +12,9 @@ use lib.ListN.{length}
 use Rattle.question_record.specs.Record.{refusal_for, void_refusal_for, outcome_record, record_after, record_of, output_of}
 use Rattle.little_endian.specs.Bytes.{written}
 use Rattle.records.specs.Layout.{answer_size, refusal_size, most_entries, answer_room, void_number, job_of, revision_of}
-use Rattle.records.specs.Records.{refusal_with, refusal_bytes, answer_bytes}
+use Rattle.records.specs.Records.{refusal_with, refusal_bytes}
 use Rattle.records.proofs.Sizes.{refusal_length, refusal_room}
-use Rattle.records.proofs.Answers.{answer-length}
+use Rattle.records.proofs.Answers.{answer_length}
 use Rattle.entrance.specs.Conditions.{small_buffer}
 use Rattle.entrance.specs.Judge.{checks, first_of, judge_of}
 use Rattle.entrance.specs.declared.Problem.{Problem}
@@ -27,8 +27,8 @@ use Rattle.solver.specs.declared.Outcome.{Outcome}
 use Rattle.solver.specs.declared.Outcome.TheVariants.{Refused, RefusedVoid, Answered}
 use Rattle.solver.specs.Crossed.{seen_of, entries_of}
 use Rattle.solver.specs.Table.{late_checks}
-use Rattle.solver.proofs.Numbering.{few, count_is, most-eight}
-use Rattle.solver.specs.Solve.{Solved, late_refusal, outcome_for, buffer_after, settled_of, solved_after, solve_of}
+use Rattle.solver.proofs.Numbering.{few, count_is, most_eight}
+use Rattle.solver.specs.Solve.{Solved, late_refusal, outcome_for, settled_of, solved_after, solve_of}
 
 -- The verdict on a question is the same for every buffer with room for the longest answer.
 pub room_same : (question : List ℕ) (room : ℕ) → answer_room ≤ room → judge_of question room ≡ judge_of question answer_room
@@ -77,11 +77,11 @@ module _ (question buffer : List ℕ) where
   abbrev Laid : ℕ → Solved → List ℕ → Type 0
   Laid n s bytes = (s.buffer ≡ written buffer bytes) × (length bytes ≡ answer_size n)
 
-  answer-by : (n : ℕ) (j : Judged) → (solved_after j buffer).outcome ≡ Answered n → Laid n (solved_after j buffer) (record_after question j)
+  answer_by : (n : ℕ) (j : Judged) → (solved_after j buffer).outcome ≡ Answered n → Laid n (solved_after j buffer) (record_after question j)
   unfolding settled_of
-  answer-by n (Refused m) e = apart e
-  answer-by n (Accepted p) e =
-      let size = answer-length p.job p.revision (entries_of p) ∙ ap (λ (m : ℕ). answer_size m) (has_entries p n e).many in
+  answer_by n (Refused m) e = apart e
+  answer_by n (Accepted p) e =
+      let size = answer_length p.job p.revision (entries_of p) ∙ ap (λ (m : ℕ). answer_size m) (has_entries p n e).many in
       rw e (refl, size)
 
   -- ---- A refusal: the buffer is untouched, and the record is that of the refusal
@@ -89,11 +89,11 @@ module _ (question buffer : List ℕ) where
   abbrev Left : Solved → List ℕ → List ℕ → Type 0
   Left s bytes expected = (s.buffer ≡ buffer) × (bytes ≡ expected)
 
-  refusal-by : (n : ℕ) (j : Judged) → (solved_after j buffer).outcome ≡ Refused n →
+  refusal_by : (n : ℕ) (j : Judged) → (solved_after j buffer).outcome ≡ Refused n →
       Left (solved_after j buffer) (record_after question j) (refusal_bytes (refusal_for question n))
   unfolding settled_of
-  refusal-by n (Refused m) e = let k : m ≡ n = cc e in (refl, ap (λ (x : ℕ). refusal_bytes (refusal_for question x)) k)
-  refusal-by n (Accepted p) e = rw e (refl, refl)
+  refusal_by n (Refused m) e = let k : m ≡ n = cc e in (refl, ap (λ (x : ℕ). refusal_bytes (refusal_for question x)) k)
+  refusal_by n (Accepted p) e = rw e (refl, refl)
 
   void_by : (station : VoidStation) (j : Judged) → (solved_after j buffer).outcome ≡ RefusedVoid station →
       Left (solved_after j buffer) (record_after question j) (refusal_bytes (void_refusal_for question station))
@@ -104,26 +104,27 @@ module _ (question buffer : List ℕ) where
   -- ---- A call with room for the longest answer
 
   module _ (h : answer_room ≤ length buffer) where
-    with-room : solve_of question buffer ≡ solved_after (judge_of question answer_room) buffer
+    with_room : solve_of question buffer ≡ solved_after (judge_of question answer_room) buffer
     unfolding solve_of
-    with-room = ap (λ (j : Judged). solved_after j buffer) (room_same question (length buffer) h)
+    with_room = ap (λ (j : Judged). solved_after j buffer) (room_same question (length buffer) h)
 
-    same_outcome : {o : Outcome} → (solve_of question buffer).outcome ≡ o → (solved_after (judge_of question answer_room) buffer).outcome ≡ o
-    same_outcome e = sym (ap (λ (s : Solved). s.outcome) with-room) ∙ e
+    same_outcome : {o : Outcome} → (solve_of question buffer).outcome ≡ o
+        → (solved_after (judge_of question answer_room) buffer).outcome ≡ o
+    same_outcome e = sym (ap (λ (s : Solved). s.outcome) with_room) ∙ e
 
-    pub when-answered : (n : ℕ) → (solve_of question buffer).outcome ≡ Answered n → Laid n (solve_of question buffer) (record_of question)
+    pub when_answered : (n : ℕ) → (solve_of question buffer).outcome ≡ Answered n → Laid n (solve_of question buffer) (record_of question)
     unfolding record_of
-    when-answered n e = rw with-room (answer-by n (judge_of question answer_room) (same_outcome e))
+    when_answered n e = rw with_room (answer_by n (judge_of question answer_room) (same_outcome e))
 
-    pub when-refused : (n : ℕ) → (solve_of question buffer).outcome ≡ Refused n →
+    pub when_refused : (n : ℕ) → (solve_of question buffer).outcome ≡ Refused n →
         Left (solve_of question buffer) (record_of question) (refusal_bytes (refusal_for question n))
     unfolding record_of
-    when-refused n e = rw with-room (refusal-by n (judge_of question answer_room) (same_outcome e))
+    when_refused n e = rw with_room (refusal_by n (judge_of question answer_room) (same_outcome e))
 
-    pub when-void : (station : VoidStation) → (solve_of question buffer).outcome ≡ RefusedVoid station →
+    pub when_void : (station : VoidStation) → (solve_of question buffer).outcome ≡ RefusedVoid station →
         Left (solve_of question buffer) (record_of question) (refusal_bytes (void_refusal_for question station))
     unfolding record_of
-    when-void station e = rw with-room (void_by station (judge_of question answer_room) (same_outcome e))
+    when_void station e = rw with_room (void_by station (judge_of question answer_room) (same_outcome e))
 
 -- ---- What `write_record` returns, and what it leaves in the buffer
 
@@ -159,8 +160,8 @@ void_record_length question station = refusal_length (void_refusal_for question 
 -- A record is never longer than the longest answer.
 short_for : (question : List ℕ) (p : Problem) (o : Outcome) → outcome_for p ≡ o → length (outcome_record question p o) ≤ answer_room
 short_for question p (Answered n) e =
-    let most : length (entries_of p) ≤ most_entries = omega (arith, count_is p (few p (has_entries p n e).none), most-eight p) in
-    omega (arith, answer-length p.job p.revision (entries_of p), most)
+    let most : length (entries_of p) ≤ most_entries = omega (arith, count_is p (few p (has_entries p n e).none), most_eight p) in
+    omega (arith, answer_length p.job p.revision (entries_of p), most)
 short_for question p (Refused n) e = omega (arith, refusal_record_length question n, refusal_room n)
 short_for question p (RefusedVoid station) e = omega (arith, void_record_length question station)
 

@@ -1,4 +1,6 @@
 // Writes the record of a question: its answer or its refusal.
+#![tactic(auto)]
+
 ghost use Rattle.std.specs.Prelude.{◌≡◌};
 ghost use Rattle.question_record.specs.Record.{refusal_for, void_refusal_for, output_of};
 ghost use Rattle.little_endian.specs.Bytes.{written};

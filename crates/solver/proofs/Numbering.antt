@@ -1,6 +1,6 @@
 -- The number that the code finds is that of the first row of 11 to 14 that applies (`number_is`), and the refusal that it makes from the
--- sweep's report is the refusal of that row (`refusal_is`). If no row applies, the sweep lists every bracket (`few`, `entries-are`,
--- `count-is`). `refused-is`, `answered-is` and `untouched` say what follows for the outcome and for the buffer.
+-- sweep's report is the refusal of that row (`refusal_is`). If no row applies, the sweep lists every bracket (`few`, `entries_are`,
+-- `count_is`). `refused_is`, `answered_is` and `untouched` say what follows for the outcome and for the buffer.
 use mathlib.Core.Path.{◌≡◌, refl, sym, ap, ◌∙◌}
 use mathlib.Core.Bool.{Bool, true, false, cond, not, ◌&&◌}
 use mathlib.Core.List.{List, map}
@@ -46,30 +46,30 @@ module _ (p : Problem) where
   found = sweep_of (sides_of p) (grid_of p) (last_place p)
 
   -- Whether the velocities of all listed brackets are finite.
-  abbrev pub finiteFound : Bool
-  finiteFound = every (finite_for p) (take found.count found.list)
+  abbrev pub finite_found : Bool
+  finite_found = every (finite_for p) (take found.count found.list)
 
-  pub most-eight : found.count ≤ 8
-  most-eight = omega (arith, counted (sides_of p) (grid_of p) (last_place p))
+  pub most_eight : found.count ≤ 8
+  most_eight = omega (arith, counted (sides_of p) (grid_of p) (last_place p))
 
   all_there : crossing_count p ≤ 8 → take found.count found.list ≡ brackets_of p
   unfolding brackets_of
   all_there h = all_listed (sides_of p) (grid_of p) (last_place p) h
 
-  few-count : crossing_count p ≤ 8 → found.count ≡ crossing_count p
-  few-count h = omega (arith, counted (sides_of p) (grid_of p) (last_place p), h)
+  few_count : crossing_count p ≤ 8 → found.count ≡ crossing_count p
+  few_count h = omega (arith, counted (sides_of p) (grid_of p) (last_place p), h)
 
   -- The report names a void place exactly if some place is void.
-  pub report-agrees : Agrees (seen_of p) (any_void p)
+  pub report_agrees : Agrees (seen_of p) (any_void p)
   unfolding seen_of some_void
-  report-agrees = agrees (sides_of p) (grid_of p) (up_to (last_place p + 1))
+  report_agrees = agrees (sides_of p) (grid_of p) (up_to (last_place p + 1))
 
-  by-ninth : (ninth : Bool) → ltb 8 (crossing_count p) ≡ ninth →
-      late_number (walk_of ninth (seen_of p)) found.count finiteFound ≡ rows (eqb (crossing_count p) 0) (any_void p) ninth (all_finite p)
-  by-ninth true e = rw (ne_eqb (crossing_count p) 0 (λ z. omega (arith, z, ltb-true 8 (crossing_count p) e)))
-  by-ninth false e =
+  by_ninth : (ninth : Bool) → ltb 8 (crossing_count p) ≡ ninth →
+      late_number (walk_of ninth (seen_of p)) found.count finite_found ≡ rows (eqb (crossing_count p) 0) (any_void p) ninth (all_finite p)
+  by_ninth true e = rw (ne_eqb (crossing_count p) 0 (λ z. omega (arith, z, ltb-true 8 (crossing_count p) e)))
+  by_ninth false e =
       let few = ltb-false 8 (crossing_count p) e in
-      rw (all_there few, few-count few) (by_report report-agrees (eqb (crossing_count p) 0) (all_finite p) (crossing_count p) refl)
+      rw (all_there few, few_count few) (by_report report_agrees (eqb (crossing_count p) 0) (all_finite p) (crossing_count p) refl)
 
   pub rows_are : first_of (late_checks p) ≡ rows (eqb (crossing_count p) 0) (any_void p) (ltb 8 (crossing_count p)) (all_finite p)
   unfolding first_of late_checks
@@ -79,10 +79,10 @@ module _ (p : Problem) where
   unfolding sweep_of reported seen_of
   walk_is = ap (λ (n : ℕ). walk_of (ltb 8 n) (seen_of p)) (length_is (sides_of p) (grid_of p) (last_place p))
 
-  pub number_is : late_number found.walk found.count finiteFound ≡ first_of (late_checks p)
+  pub number_is : late_number found.walk found.count finite_found ≡ first_of (late_checks p)
   number_is =
-      ap (λ (w : Walk). late_number w found.count finiteFound) walk_is
-      ∙ by-ninth (ltb 8 (crossing_count p)) refl
+      ap (λ (w : Walk). late_number w found.count finite_found) walk_is
+      ∙ by_ninth (ltb 8 (crossing_count p)) refl
       ∙ sym rows_are
 
   -- ---- The refusal: at a ninth crossing the number is 13, which comes without a void station
@@ -92,65 +92,65 @@ module _ (p : Problem) where
   thirteen (SomeVoid station) = refl
   thirteen NinthFound = refl
 
-  rows-ninth : (none void finite : Bool) → none ≡ false → rows none void true finite ≡ 13
-  rows-ninth none void finite e = rw e
+  rows_ninth : (none void finite : Bool) → none ≡ false → rows none void true finite ≡ 13
+  rows_ninth none void finite e = rw e
 
-  ninth-number : ltb 8 (crossing_count p) ≡ true → first_of (late_checks p) ≡ 13
-  ninth-number e =
+  ninth_number : ltb 8 (crossing_count p) ≡ true → first_of (late_checks p) ≡ 13
+  ninth_number e =
       let some = ne_eqb (crossing_count p) 0 (λ z. omega (arith, z, ltb-true 8 (crossing_count p) e)) in
-      rows_are ∙ rw e (rows-ninth (eqb (crossing_count p) 0) (any_void p) (all_finite p) some)
+      rows_are ∙ rw e (rows_ninth (eqb (crossing_count p) 0) (any_void p) (all_finite p) some)
 
-  refusal-by : (ninth : Bool) → ltb 8 (crossing_count p) ≡ ninth →
+  refusal_by : (ninth : Bool) → ltb 8 (crossing_count p) ≡ ninth →
       late_refusal (first_of (late_checks p)) (walk_of ninth (seen_of p)) ≡ late_refusal (first_of (late_checks p)) (seen_of p)
-  refusal-by true e = rw (ninth-number e) (thirteen (seen_of p))
-  refusal-by false e = refl
+  refusal_by true e = rw (ninth_number e) (thirteen (seen_of p))
+  refusal_by false e = refl
 
   -- The refusal made from the sweep's report is that of the first row that applies.
   pub refusal_is : (n : ℕ) → n ≡ first_of (late_checks p) → late_refusal n found.walk ≡ late_refusal (first_of (late_checks p)) (seen_of p)
   refusal_is n e =
       ap (λ (m : ℕ). late_refusal m found.walk) e
       ∙ ap (late_refusal (first_of (late_checks p))) walk_is
-      ∙ refusal-by (ltb 8 (crossing_count p)) refl
+      ∙ refusal_by (ltb 8 (crossing_count p)) refl
 
   -- ---- The case that no row applies
 
-  not-ninth : (none void ninth finite : Bool) → rows none void ninth finite ≡ 0 → ninth ≡ false
-  not-ninth none void false finite e = refl
-  not-ninth true true true finite e = absurd (omega (arith, e))
-  not-ninth true false true finite e = absurd (omega (arith, e))
-  not-ninth false void true finite e = absurd (omega (arith, e))
+  not_ninth : (none void ninth finite : Bool) → rows none void ninth finite ≡ 0 → ninth ≡ false
+  not_ninth none void false finite e = refl
+  not_ninth true true true finite e = absurd (omega (arith, e))
+  not_ninth true false true finite e = absurd (omega (arith, e))
+  not_ninth false void true finite e = absurd (omega (arith, e))
 
   pub few : first_of (late_checks p) ≡ 0 → crossing_count p ≤ 8
   few e = ltb-false 8 (crossing_count p)
-      (not-ninth (eqb (crossing_count p) 0) (any_void p) (ltb 8 (crossing_count p)) (all_finite p) (sym rows_are ∙ e))
+      (not_ninth (eqb (crossing_count p) 0) (any_void p) (ltb 8 (crossing_count p)) (all_finite p) (sym rows_are ∙ e))
 
-  pub entries-are : crossing_count p ≤ 8 → map (entry_for p) (take found.count found.list) ≡ entries_of p
+  pub entries_are : crossing_count p ≤ 8 → map (entry_for p) (take found.count found.list) ≡ entries_of p
   unfolding entries_of
-  entries-are h = ap (map (entry_for p)) (all_there h)
+  entries_are h = ap (map (entry_for p)) (all_there h)
 
   pub count_is : crossing_count p ≤ 8 → found.count ≡ length (entries_of p)
   unfolding entries_of brackets_of
-  count_is h = few-count h ∙ sym (length-map (brackets_of p) (entry_for p) ∙ length_is (sides_of p) (grid_of p) (last_place p))
+  count_is h = few_count h ∙ sym (length-map (brackets_of p) (entry_for p) ∙ length_is (sides_of p) (grid_of p) (last_place p))
 
   -- ---- The outcome for the problem, and the buffer after it
 
-  pub refused-is : (n : ℕ) → n ≡ first_of (late_checks p) → (n ≡ 0 → ⊥) → outcome_for p ≡ late_refusal n found.walk
+  pub refused_is : (n : ℕ) → n ≡ first_of (late_checks p) → (n ≡ 0 → ⊥) → outcome_for p ≡ late_refusal n found.walk
   unfolding outcome_for
-  refused-is n e f =
+  refused_is n e f =
       let some : eqb (first_of (late_checks p)) 0 ≡ false = rw (← e) (ne_eqb n 0 f) in
       rw some (sym (refusal_is n e))
 
-  pub answered-is : first_of (late_checks p) ≡ 0 → outcome_for p ≡ Answered (length (entries_of p))
+  pub answered_is : first_of (late_checks p) ≡ 0 → outcome_for p ≡ Answered (length (entries_of p))
   unfolding outcome_for
-  answered-is e = rw e
+  answered_is e = rw e
 
-  untouched-by : (void : Bool) (station : VoidStation) (n : ℕ) (buffer : List ℕ) →
+  untouched_by : (void : Bool) (station : VoidStation) (n : ℕ) (buffer : List ℕ) →
       buffer_after p (cond void (RefusedVoid station) (Refused n)) buffer ≡ buffer
-  untouched-by true station n buffer = refl
-  untouched-by false station n buffer = refl
+  untouched_by true station n buffer = refl
+  untouched_by false station n buffer = refl
 
   -- A refusal leaves the buffer untouched.
   pub untouched : (n : ℕ) (walk : Walk) (buffer : List ℕ) → buffer_after p (late_refusal n walk) buffer ≡ buffer
   untouched n AllTimed buffer = refl
-  untouched n (SomeVoid station) buffer = untouched-by (eqb n void_number) station n buffer
+  untouched n (SomeVoid station) buffer = untouched_by (eqb n void_number) station n buffer
   untouched n NinthFound buffer = refl

@@ -1,5 +1,7 @@
 // Solves a question: from its bytes to its answer or refusal (01). The steps are the entrance checks, the sweep, and for each crossing
 // its bracket, the chosen end and the velocities there.
+#![tactic(auto)]
+
 ghost use Rattle.std.specs.Prelude.{◌≡◌};
 ghost use Rattle.solver.specs.Solve.{settled_of, solve_of};
 
@@ -12,7 +14,7 @@ use sweep::VoidStation;
 
 // The result of solving a question: the number of its refusal, or how many entries its answer has. Refusal 12 is a case of its own. It
 // has the first void station, with the reason why that station is void.
-#[derive(Drop)]
+#[derive(Clone, Copy)]
 pub enum Outcome {
     Refused(u16),
     RefusedVoid(VoidStation),

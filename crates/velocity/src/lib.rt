@@ -1,5 +1,7 @@
 // The terminal velocities at a place of a triangle (01, Velocities), and the choice of the
 // bracket's end where they are taken. Every function accepts any numbers.
+#![tactic(auto)]
+
 ghost use Rattle.std.specs.Prelude.{◌≡◌};
 ghost use Rattle.velocity.specs.Velocities.{gamma_of, y_or_nan, speeds_of, velocity_of, velocities_of};
 
@@ -10,7 +12,7 @@ use float64::Vector;
 use geometry::{Frame, Triangle};
 
 // The radial and transverse speeds at departure (1) and at arrival (2).
-#[derive(Drop)]
+#[derive(Clone, Copy)]
 pub(crate) struct Speeds {
     pub(crate) radial1: f64,
     pub(crate) radial2: f64,
@@ -19,7 +21,7 @@ pub(crate) struct Speeds {
 }
 
 // The velocities at departure (v1) and at arrival (v2), in km/s.
-#[derive(Drop)]
+#[derive(Clone, Copy)]
 pub struct Velocities {
     pub v1: Vector,
     pub v2: Vector,
