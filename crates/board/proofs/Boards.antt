@@ -1,6 +1,6 @@
 -- The bytes of a board and what it holds determine each other. The bytes of a board are those that `board_of` makes from
--- what it holds (`board-held`). In the other direction, at most 64 contents that slots may hold, with rising job
--- numbers, make a board, and `held_on` reads them back from it (`held-board`). Both are proved by induction on the
+-- what it holds (`board_held`). In the other direction, at most 64 contents that slots may hold, with rising job
+-- numbers, make a board, and `held_on` reads them back from it (`held_board`). Both are proved by induction on the
 -- slots, for any number of slots.
 use mathlib.Core.Path.{◌≡◌, refl, sym, ap, ◌∙◌}
 use mathlib.Core.Bool.{Bool, true, false, cond, ◌&&◌, ◌||◌}
@@ -15,7 +15,7 @@ use Rattle.records.specs.Layout.{answer_room, job_of}
 use Rattle.slots.specs.Slots.{padded, slot_of, content_of, is_filled, is_zero}
 use Rattle.slots.proofs.Padding.{padded_length}
 use Rattle.slots.proofs.Zeros.{both, zero_is, zeros_zero, zero_append}
-use Rattle.slots.proofs.Held.{content-back, slot-filled, slot-not-zero, slot_job, content-held, slot-back, content-job}
+use Rattle.slots.proofs.Held.{content_back, slot_filled, slot_not_zero, slot_job, content_held, slot_back, content_job}
 use Rattle.board.specs.Board.{SLOTS, board_size, in_order, is_board, held_in, held_on, slots_bytes}
 use Rattle.board.specs.Board.{board_of, empty_board, HeldRising, none, next}
 
@@ -105,15 +105,15 @@ told (suc n) above b e h = by (λ job f. told n job (drop answer_room b) (omega 
         let size : length slot ≡ answer_room = length-take-le answer_room b (omega arith) in
         let parts = both (is_filled slot && ltb above (job_of slot)) (in_order n (job_of slot) rest) f in
         let first = both (is_filled slot) (ltb above (job_of slot)) parts.0 in
-        let job = content-job slot first.0 in
+        let job = content_job slot first.0 in
         let low : above < job_of (content_of slot) = omega (arith, job, ltb-true above (job_of slot) first.1) in
         let more = below (job_of slot) parts.1 in
         record {
-          rising = rw these (next low (content-held slot first.0) (rw (← job) at more.rising));
+          rising = rw these (next low (content_held slot first.0) (rw (← job) at more.rising));
           few = rw these (omega (arith, more.few));
           bytes = rw these
               (sym (take-append-drop answer_room b)
-              ∙ ap (λ (l : List ℕ). l ++ rest) (slot-back slot first.0 size)
+              ∙ ap (λ (l : List ℕ). l ++ rest) (slot_back slot first.0 size)
               ∙ ap (λ (l : List ℕ). slot_of (content_of slot) ++ l) more.bytes
               ∙ sym (slots_next n (content_of slot) (held_in n rest)));
         }
@@ -144,10 +144,11 @@ read_back (suc n) above (c ∷ cs) (next low held r) h =
     let rest = slots_in n cs in
     let first : take answer_room (slot_of c ++ rest) ≡ slot_of c = take_at (slot_of c) rest answer_room (padded_length answer_room c) in
     let after : drop answer_room (slot_of c ++ rest) ≡ rest = drop_at (slot_of c) rest answer_room (padded_length answer_room c) in
-    let z : is_zero (slot_of c ++ rest) ≡ false = zero_append (slot_of c) rest ∙ ap (λ (t : Bool). t && is_zero rest) (slot-not-zero c held) in
+    let z : is_zero (slot_of c ++ rest) ≡ false = zero_append (slot_of c) rest
+    ∙ ap (λ (t : Bool). t && is_zero rest) (slot_not_zero c held) in
     rw (slots_next n c cs) (
-      rw (z, first, after, slot-filled c held, slot_job c, lt-ltb above (job_of c) low) more.0,
-      rw (z, first, after, content-back c held) (ap (λ l. c ∷ l) more.1),
+      rw (z, first, after, slot_filled c held, slot_job c, lt-ltb above (job_of c) low) more.0,
+      rw (z, first, after, content_back c held) (ap (λ l. c ∷ l) more.1),
     )
 
 pub held_board : (cs : List (List ℕ)) → HeldRising 0 cs → length cs ≤ SLOTS → (is_board (board_of cs) ≡ true) × (held_on (board_of cs) ≡ cs)

@@ -1,6 +1,6 @@
 -- The code's check of a board agrees with `in_order`, and so with `is_board`: up to the first slot whose length field is
 -- 0, every slot is filled and the jobs rise, and all bytes after these slots are 0 (`checked`). The remaining lemmas
--- are loop steps: one more slot is counted (`count_next`, `count-ends`) or tested (`rising-next`).
+-- are loop steps: one more slot is counted (`count_next`, `count_ends`) or tested (`rising_next`).
 use mathlib.Core.Path.{◌≡◌, refl, sym, ap, ◌∙◌}
 use mathlib.Core.Bool.{Bool, true, false, cond, not, ◌&&◌, and_assoc, or-false}
 use mathlib.Core.List.{List, [], ◌∷◌}
@@ -15,7 +15,7 @@ use Rattle.records.specs.Layout.{LENGTH, answer_room, value_of, job_of}
 use Rattle.slots.specs.Slots.{content_of, is_filled, is_zero}
 use Rattle.little_endian.proofs.Same.{number_take}
 use Rattle.slots.proofs.Zeros.{zero_number}
-use Rattle.slots.proofs.Held.{slot-named, content-held, slot-back}
+use Rattle.slots.proofs.Held.{slot_named, content_held, slot_back}
 use Rattle.board.proofs.Boards.{one_more}
 use Rattle.board.specs.Board.{in_order}
 use Rattle.board.specs.Internals.{slots_while, slots_before_free, filled_rising}
@@ -26,7 +26,7 @@ named s e z = by (is_filled s) refl
   where
     by : (t : Bool) → is_filled s ≡ t → is_filled s ≡ false
     by false f = f
-    by true f = absurd (slot-named (content_of s) (content-held s f) (ap (value_of LENGTH) (sym (slot-back s f e)) ∙ z))
+    by true f = absurd (slot_named (content_of s) (content_held s f) (ap (value_of LENGTH) (sym (slot_back s f e)) ∙ z))
 
 zero_unnamed : (b : List ℕ) → (value_of LENGTH b ≡ 0 → ⊥) → is_zero b ≡ false
 zero_unnamed b h = by (is_zero b) refl
@@ -102,8 +102,8 @@ module _ (test : List ℕ → Bool) (n : ℕ) (b : List ℕ) where
   abbrev pub Counted : ℕ → Type 0
   Counted i = (i ≤ n) × (i + slots_while test (n - i) (drop (i * answer_room) b) ≡ slots_while test n b)
 
-  pub count-starts : Counted 0
-  count-starts =
+  pub count_starts : Counted 0
+  count_starts =
       let whole : n - 0 ≡ n = omega arith in
       (omega arith, rw whole (zero-add (slots_while test n b)))
 
@@ -115,12 +115,12 @@ module _ (test : List ℕ → Bool) (n : ℕ) (b : List ℕ) where
   pub count_next : (i : ℕ) → i < n → test (drop (i * answer_room) b) ≡ true → Counted i → Counted (i + 1)
   count_next i h e c = (omega arith, omega (arith, counted i true h e, c.1))
 
-  pub count-ends : (i : ℕ) → i < n → test (drop (i * answer_room) b) ≡ false → Counted i → (i ≤ n) × (i ≡ slots_while test n b)
-  count-ends i h e c = (omega arith, omega (arith, counted i false h e, c.1))
+  pub count_ends : (i : ℕ) → i < n → test (drop (i * answer_room) b) ≡ false → Counted i → (i ≤ n) × (i ≡ slots_while test n b)
+  count_ends i h e c = (omega arith, omega (arith, counted i false h e, c.1))
 
-  pub count-whole : (i : ℕ) → n ≤ i → Counted i → (i ≤ n) × (i ≡ slots_while test n b)
+  pub count_whole : (i : ℕ) → n ≤ i → Counted i → (i ≤ n) × (i ≡ slots_while test n b)
   unfolding slots_while
-  count-whole i h c =
+  count_whole i h c =
       let all : n - i ≡ 0 = omega (arith, c.0) in
       let none : slots_while test (n - i) (drop (i * answer_room) b) ≡ 0 = rw all refl in
       (c.0, omega (arith, none, c.1))

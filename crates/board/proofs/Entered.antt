@@ -1,6 +1,6 @@
 -- A record changes the bytes of a board as `placed` changes what the board holds. The slots of lower jobs stay the
--- same. If there is a slot of the record's job, the record is joined to it (`enters-slot`). Otherwise, if a slot is
--- free, the later slots move up and the record gets a slot of its own (`enters-new`). If no slot is free, the record is
+-- same. If there is a slot of the record's job, the record is joined to it (`enters_slot`). Otherwise, if a slot is
+-- free, the later slots move up and the record gets a slot of its own (`enters_new`). If no slot is free, the record is
 -- refused with B3 (`enters_none`). `goes` collects these cases for the routes of `route_of`.
 use mathlib.Core.Path.{◌≡◌, refl, sym, ap, ◌∙◌}
 use mathlib.Core.Bool.{Bool, true, false, cond, ◌&&◌}
@@ -18,7 +18,7 @@ use Rattle.slots.specs.Slots.{padded, slot_of, content_of, is_held}
 use Rattle.little_endian.proofs.Same.{number_take}
 use Rattle.slots.proofs.Padding.{padded_length}
 use Rattle.slots.proofs.Zeros.{both, zeros_zero, zero_number}
-use Rattle.slots.proofs.Held.{slot-named, slot_job, content-back}
+use Rattle.slots.proofs.Held.{slot_named, slot_job, content_back}
 use Rattle.board.specs.declared.moves.Route.{Route}
 use Rattle.board.specs.declared.moves.Route.TheVariants.{Joins, Enters, NoneFree}
 use Rattle.board.specs.declared.Posted.{Posted}
@@ -33,7 +33,8 @@ use Rattle.board.proofs.Boards.{one_more, zeros, padded_append, slots_in, slots_
 slots_join : (pre post : List (List ℕ)) → slots_bytes (pre ++ post) ≡ slots_bytes pre ++ slots_bytes post
 unfolding slots_bytes
 slots_join [] post = refl
-slots_join (c ∷ cs) post = ap (λ l. slot_of c ++ l) (slots_join cs post) ∙ sym (append_assoc (slot_of c) (slots_bytes cs) (slots_bytes post))
+slots_join (c ∷ cs) post =
+    ap (λ l. slot_of c ++ l) (slots_join cs post) ∙ sym (append_assoc (slot_of c) (slots_bytes cs) (slots_bytes post))
 
 slots_size : (cs : List (List ℕ)) → length (slots_bytes cs) ≡ length cs * answer_room
 unfolding slots_bytes
@@ -50,29 +51,31 @@ slots_append m pre post =
     sum : (a b : ℕ) → (a + b) * answer_room ≡ a * answer_room + b * answer_room
     sum a b = omega arith
 
--- The slot that follows the slots of `pre`: its bytes (`the-slot`), and the bytes after another content is written to
--- it (`put-slot`).
+-- The slot that follows the slots of `pre`: its bytes (`the_slot`), and the bytes after another content is written to
+-- it (`put_slot`).
 module _ (m : ℕ) (pre post : List (List ℕ)) where
   around : (c : List ℕ) → slots_in (length pre + suc m) (pre ++ (c ∷ post)) ≡ slots_bytes pre ++ (slot_of c ++ slots_in m post)
   around c = slots_append (suc m) pre (c ∷ post) ∙ ap (λ l. slots_bytes pre ++ l) (slots_next m c post)
 
-  from-slot : (c : List ℕ) → drop (length pre * answer_room) (slots_in (length pre + suc m) (pre ++ (c ∷ post))) ≡ slot_of c ++ slots_in m post
-  from-slot c =
+  from_slot : (c : List ℕ)
+      → drop (length pre * answer_room) (slots_in (length pre + suc m) (pre ++ (c ∷ post))) ≡ slot_of c ++ slots_in m post
+  from_slot c =
       ap (drop (length pre * answer_room)) (around c)
       ∙ drop_at (slots_bytes pre) (slot_of c ++ slots_in m post) (length pre * answer_room) (slots_size pre)
 
-  the-slot : (c : List ℕ) → mid_of (length pre * answer_room) answer_room (slots_in (length pre + suc m) (pre ++ (c ∷ post))) ≡ slot_of c
-  the-slot c = ap (take answer_room) (from-slot c) ∙ take_at (slot_of c) (slots_in m post) answer_room (padded_length answer_room c)
+  the_slot : (c : List ℕ) → mid_of (length pre * answer_room) answer_room (slots_in (length pre + suc m) (pre ++ (c ∷ post))) ≡ slot_of c
+  the_slot c = ap (take answer_room) (from_slot c) ∙ take_at (slot_of c) (slots_in m post) answer_room (padded_length answer_room c)
 
-  put-slot : (c x : List ℕ)
+  put_slot : (c x : List ℕ)
       → put_mid (length pre * answer_room) answer_room (slots_in (length pre + suc m) (pre ++ (c ∷ post))) (slot_of x)
       ≡ slots_in (length pre + suc m) (pre ++ (x ∷ post))
-  put-slot c x =
+  put_slot c x =
       let before : take (length pre * answer_room) (slots_in (length pre + suc m) (pre ++ (c ∷ post))) ≡ slots_bytes pre =
       ap (take (length pre * answer_room)) (around c)
       ∙ take_at (slots_bytes pre) (slot_of c ++ slots_in m post) (length pre * answer_room) (slots_size pre) in
-      let behind : drop answer_room (drop (length pre * answer_room) (slots_in (length pre + suc m) (pre ++ (c ∷ post)))) ≡ slots_in m post =
-      ap (drop answer_room) (from-slot c) ∙ drop_at (slot_of c) (slots_in m post) answer_room (padded_length answer_room c) in
+      let behind : drop answer_room (drop (length pre * answer_room) (slots_in (length pre + suc m) (pre ++ (c ∷ post))))
+      ≡ slots_in m post =
+      ap (drop answer_room) (from_slot c) ∙ drop_at (slot_of c) (slots_in m post) answer_room (padded_length answer_room c) in
       rw (before, behind) (sym (around x))
 
 -- Moving Q up by one slot, over zs, and writing X into the gap inserts X between P and Q.
@@ -116,16 +119,17 @@ put_between m pre post x =
     ∙ sym end
   where
     tail : (k : ℕ) → slots_in (length post + k) post ≡ slots_bytes post ++ zeros (k * answer_room)
-    tail k = ap (slots_in (length post + k)) (sym (append-nil post)) ∙ slots_append k post [] ∙ ap (λ l. slots_bytes post ++ l) (slots_none k)
+    tail k =
+        ap (slots_in (length post + k)) (sym (append-nil post)) ∙ slots_append k post [] ∙ ap (λ l. slots_bytes post ++ l) (slots_none k)
 
-    zeros-more : zeros (suc m * answer_room) ≡ zeros answer_room ++ zeros (m * answer_room)
-    zeros-more = ap zeros (one_more m) ∙ sym (replicate-append-replicate {A = ℕ} answer_room (m * answer_room) 0)
+    zeros_more : zeros (suc m * answer_room) ≡ zeros answer_room ++ zeros (m * answer_room)
+    zeros_more = ap zeros (one_more m) ∙ sym (replicate-append-replicate {A = ℕ} answer_room (m * answer_room) 0)
 
     start : slots_in (length pre + (length post + suc m)) (pre ++ post)
         ≡ slots_bytes pre ++ (slots_bytes post ++ (zeros answer_room ++ zeros (m * answer_room)))
     start =
         slots_append (length post + suc m) pre post
-        ∙ ap (λ l. slots_bytes pre ++ l) (tail (suc m) ∙ ap (λ l. slots_bytes post ++ l) zeros-more)
+        ∙ ap (λ l. slots_bytes pre ++ l) (tail (suc m) ∙ ap (λ l. slots_bytes post ++ l) zeros_more)
 
     shift : (a b : ℕ) → a + suc b ≡ suc (a + b)
     shift a b = omega arith
@@ -192,7 +196,7 @@ slots_named (suc n) above (c ∷ cs) (next low held r) h =
     let more = slots_named n (job_of c) cs r (omega arith) in
     let first = first_slot LENGTH c rest (omega arith) in
     let named : eqb (value_of LENGTH (slot_of c ++ rest)) 0 ≡ false =
-    ne_eqb (value_of LENGTH (slot_of c ++ rest)) 0 (λ e. slot-named c held (sym first ∙ e)) in
+    ne_eqb (value_of LENGTH (slot_of c ++ rest)) 0 (λ e. slot_named c held (sym first ∙ e)) in
     rw (slots_next n c cs, named, behind_slot c rest) (ap suc more)
 
 slots_below_lem : (n job : ℕ) (cs : List (List ℕ)) → length cs ≤ n → slots_below (length cs) job (slots_in n cs) ≡ below cs job
@@ -250,8 +254,8 @@ module _ (b new : List ℕ) (board : is_board b ≡ true) where
       ap (λ (n : ℕ). slots_below n (job_of new) b) filled_is ∙ ap (slots_below (length cs) (job_of new)) bytes
       ∙ slots_below_lem SLOTS (job_of new) cs few
 
-  pre-size : length pre ≡ place
-  pre-size = length-take-le place cs (below_le cs (job_of new))
+  pre_size : length pre ≡ place
+  pre_size = length-take-le place cs (below_le cs (job_of new))
 
   taken : (held : List (List ℕ)) → placed cs new ≡ held → length held ≤ SLOTS → Gives b new Taken (board_of held)
   unfolding placed_on
@@ -266,29 +270,29 @@ module _ (b new : List ℕ) (board : is_board b ≡ true) where
     these = sym (take-append-drop place cs) ∙ ap (λ l. pre ++ l) e
 
     free : SLOTS ≡ length pre + suc (SLOTS - suc place)
-    free = omega (arith, pre-size, after, few)
+    free = omega (arith, pre_size, after, few)
 
     shown : b ≡ slots_in (length pre + suc (SLOTS - suc place)) (pre ++ (c ∷ post))
     shown = bytes ∙ ap (slots_in SLOTS) these ∙ ap (λ (n : ℕ). slots_in n (pre ++ (c ∷ post))) free
 
     here : mid_of (place * answer_room) answer_room b ≡ slot_of c
     here =
-        ap (λ (n : ℕ). mid_of (n * answer_room) answer_room b) (sym pre-size)
+        ap (λ (n : ℕ). mid_of (n * answer_room) answer_room b) (sym pre_size)
         ∙ ap (mid_of (length pre * answer_room) answer_room) shown
-        ∙ the-slot (SLOTS - suc place) pre post c
+        ∙ the_slot (SLOTS - suc place) pre post c
 
-    job-here : job_of (drop (place * answer_room) b) ≡ job_of c
-    job-here =
+    job_here : job_of (drop (place * answer_room) b) ≡ job_of c
+    job_here =
         sym (number_take JOB.width answer_room JOB.offset (drop (place * answer_room) b) (omega arith))
         ∙ ap job_of here
         ∙ slot_job c
 
-    put-here : (x : List ℕ) → put_mid (place * answer_room) answer_room b (slot_of x) ≡ board_of (pre ++ (x ∷ post))
+    put_here : (x : List ℕ) → put_mid (place * answer_room) answer_room b (slot_of x) ≡ board_of (pre ++ (x ∷ post))
     unfolding board_of slots_in
-    put-here x =
-        ap (λ (n : ℕ). put_mid (n * answer_room) answer_room b (slot_of x)) (sym pre-size)
+    put_here x =
+        ap (λ (n : ℕ). put_mid (n * answer_room) answer_room b (slot_of x)) (sym pre_size)
         ∙ ap (λ (l : List ℕ). put_mid (length pre * answer_room) answer_room l (slot_of x)) shown
-        ∙ put-slot (SLOTS - suc place) pre post c x
+        ∙ put_slot (SLOTS - suc place) pre post c x
         ∙ ap (λ (n : ℕ). slots_in n (pre ++ (x ∷ post))) (sym free)
 
   -- ---- the three cases, at the index that the code finds
@@ -301,9 +305,9 @@ module _ (b new : List ℕ) (board : is_board b ≡ true) where
       pub done : (s : List ℕ) → s ≡ slot_of (joined (content_of (mid_of (i * answer_room) answer_room b)) new)
           → Gives b new Taken (put_mid (i * answer_room) answer_room b s)
 
-    enters-slot : i < slots_before_free SLOTS b → job_of (drop (i * answer_room) b) ≡ job_of new → JoinsHere
+    enters_slot : i < slots_before_free SLOTS b → job_of (drop (i * answer_room) b) ≡ job_of new → JoinsHere
     unfolding settled
-    enters-slot low same = by (drop place cs) refl
+    enters_slot low same = by (drop place cs) refl
       where
         by : (l : List (List ℕ)) → drop place cs ≡ l → JoinsHere
         by [] e = absurd (omega (arith, length-drop place cs, ap length e, found, low, filled_is))
@@ -311,12 +315,13 @@ module _ (b new : List ℕ) (board : is_board b ≡ true) where
             let held : is_held c ≡ true = rising_held 0 place cs (board_held b board).0 e in
             let slot : mid_of (i * answer_room) answer_room b ≡ slot_of c =
             ap (λ (n : ℕ). mid_of (n * answer_room) answer_room b) found ∙ here c post e in
-            let content : content_of (mid_of (i * answer_room) answer_room b) ≡ c = ap content_of slot ∙ content-back c held in
-            let its : job_of c ≡ job_of new = sym (job-here c post e) ∙ ap (λ (n : ℕ). job_of (drop (n * answer_room) b)) (sym found) ∙ same in
+            let content : content_of (mid_of (i * answer_room) answer_room b) ≡ c = ap content_of slot ∙ content_back c held in
+            let its : job_of c ≡ job_of new = sym (job_here c post e) ∙ ap (λ (n : ℕ). job_of (drop (n * answer_room) b)) (sym found)
+            ∙ same in
             let whole : placed cs new ≡ pre ++ (joined c new ∷ post) =
             placed_settled cs new ∙ rw (e, eq-eqb (job_of c) (job_of new) its) refl in
             let size : length (pre ++ (joined c new ∷ post)) ≤ SLOTS =
-            omega (arith, length-append pre (joined c new ∷ post), pre-size, after c post e, few) in
+            omega (arith, length-append pre (joined c new ∷ post), pre_size, after c post e, few) in
             let go = taken (pre ++ (joined c new ∷ post)) whole size in
             record {
               ready = slot ∙ ap slot_of (sym content);
@@ -324,7 +329,7 @@ module _ (b new : List ℕ) (board : is_board b ≡ true) where
                 go.0,
                 ap (λ (l : List ℕ). put_mid (i * answer_room) answer_room b l) (f ∙ ap (λ (x : List ℕ). slot_of (joined x new)) content)
                     ∙ ap (λ (n : ℕ). put_mid (n * answer_room) answer_room b (slot_of (joined c new))) found
-                    ∙ put-here c post e (joined c new)
+                    ∙ put_here c post e (joined c new)
                     ∙ go.1,
               );
             }
@@ -339,39 +344,39 @@ module _ (b new : List ℕ) (board : is_board b ≡ true) where
           where
             other : NotThere b new i → job_of c ≡ job_of new → ⊥
             other (inl low) f = omega (arith, after c post e, found, low, filled_is)
-            other (inr differs) f = differs (ap (λ (n : ℕ). job_of (drop (n * answer_room) b)) found ∙ job-here c post e ∙ f)
+            other (inr differs) f = differs (ap (λ (n : ℕ). job_of (drop (n * answer_room) b)) found ∙ job_here c post e ∙ f)
 
     whole : NotThere b new i → placed cs new ≡ pre ++ (new ∷ drop place cs)
     whole h = placed_settled cs new ∙ ap (λ l. pre ++ l) (not_there h)
 
-    post-size : length (drop place cs) ≡ length cs - place
-    post-size = length-drop place cs
+    post_size : length (drop place cs) ≡ length cs - place
+    post_size = length-drop place cs
 
-    one-held-more : length (pre ++ (new ∷ drop place cs)) ≡ suc (length cs)
-    one-held-more = length-append pre (new ∷ drop place cs) ∙ omega (arith, pre-size, post-size, below_le cs (job_of new))
+    one_held_more : length (pre ++ (new ∷ drop place cs)) ≡ suc (length cs)
+    one_held_more = length-append pre (new ∷ drop place cs) ∙ omega (arith, pre_size, post_size, below_le cs (job_of new))
 
     enters_none : NotThere b new i → slots_before_free SLOTS b ≡ SLOTS → Gives b new (Refused 3) b
     unfolding placed_on
     enters_none h full =
-        rw (whole h, lt-ltb SLOTS (length (pre ++ (new ∷ drop place cs))) (omega (arith, one-held-more, filled_is, full))) (refl, refl)
+        rw (whole h, lt-ltb SLOTS (length (pre ++ (new ∷ drop place cs))) (omega (arith, one_held_more, filled_is, full))) (refl, refl)
 
-    enters-new : NotThere b new i → slots_before_free SLOTS b < SLOTS
+    enters_new : NotThere b new i → slots_before_free SLOTS b < SLOTS
         → Gives b new Taken (put_mid (i * answer_room) answer_room (moved_up (i * answer_room) (slots_before_free SLOTS b * answer_room) b)
         (slot_of new))
     unfolding board_of slots_in
-    enters-new h room =
+    enters_new h room =
         let post = drop place cs in
         let m = SLOTS - suc (length cs) in
         let total : SLOTS ≡ length pre + (length post + suc m) =
-        omega (arith, pre-size, post-size, below_le cs (job_of new), filled_is, room) in
-        let from : i * answer_room ≡ length pre * answer_room = ap (λ (n : ℕ). n * answer_room) (found ∙ sym pre-size) in
+        omega (arith, pre_size, post_size, below_le cs (job_of new), filled_is, room) in
+        let from : i * answer_room ≡ length pre * answer_room = ap (λ (n : ℕ). n * answer_room) (found ∙ sym pre_size) in
         let sum : slots_before_free SLOTS b ≡ length pre + length post =
-        omega (arith, pre-size, post-size, below_le cs (job_of new), filled_is) in
+        omega (arith, pre_size, post_size, below_le cs (job_of new), filled_is) in
         let to : slots_before_free SLOTS b * answer_room ≡ length pre * answer_room + length post * answer_room =
         ap (λ (n : ℕ). n * answer_room) sum ∙ times (length pre) (length post) in
         let shown : b ≡ slots_in (length pre + (length post + suc m)) (pre ++ post) =
         bytes ∙ ap (slots_in SLOTS) (sym (take-append-drop place cs)) ∙ ap (λ (n : ℕ). slots_in n (pre ++ post)) total in
-        let go = taken (pre ++ (new ∷ post)) (whole h) (omega (arith, one-held-more, filled_is, room)) in (
+        let go = taken (pre ++ (new ∷ post)) (whole h) (omega (arith, one_held_more, filled_is, room)) in (
           go.0,
           ap (λ (n : ℕ). put_mid n answer_room (moved_up n (slots_before_free SLOTS b * answer_room) b) (slot_of new)) from
               ∙ ap (λ (n : ℕ). put_mid (length pre * answer_room) answer_room (moved_up (length pre * answer_room) n b) (slot_of new)) to
@@ -394,7 +399,8 @@ board_size_lem b h = eqb-true (length b) board_size (both (eqb (length b) board_
 pub record JoinsAt (b new : List ℕ) (from : ℕ) : Type 0 where
   pub fits : from + answer_room ≤ board_size
   pub ready : mid_of from answer_room b ≡ slot_of (content_of (mid_of from answer_room b))
-  pub done : (s : List ℕ) → s ≡ slot_of (joined (content_of (mid_of from answer_room b)) new) → Gives b new Taken (put_mid from answer_room b s)
+  pub done : (s : List ℕ) → s ≡ slot_of (joined (content_of (mid_of from answer_room b)) new)
+      → Gives b new Taken (put_mid from answer_room b s)
 
 pub record EntersAt (b new : List ℕ) (from end : ℕ) : Type 0 where
   pub rising : from ≤ end
@@ -430,13 +436,13 @@ goes b new board = by (ltb i n) (eqb here (job_of new)) (eqb n SLOTS) refl refl 
     beyond h false free = record {
       rising = omega (arith, within);
       fits = omega (arith, most, eqb-false n SLOTS free);
-      done = enters-new b new board i refl h (omega (arith, most, eqb-false n SLOTS free));
+      done = enters_new b new board i refl h (omega (arith, most, eqb-false n SLOTS free));
     }
 
     by : (low same full : Bool) → ltb i n ≡ low → eqb here (job_of new) ≡ same → eqb n SLOTS ≡ full →
         Goes b new (cond (low && same) (Joins (i * answer_room)) (cond full NoneFree (Enters (i * answer_room) (n * answer_room))))
     by true true full l s f =
-        let slot = enters-slot b new board i refl (ltb-true i n l) (eqb-true here (job_of new) s) in
+        let slot = enters_slot b new board i refl (ltb-true i n l) (eqb-true here (job_of new) s) in
         record { fits = omega (arith, most, ltb-true i n l); ready = slot.ready; done = slot.done }
     by true false full l s f = beyond (inr (eqb-false here (job_of new) s)) full f
     by false same full l s f = beyond (inl (ltb-false i n l)) full f

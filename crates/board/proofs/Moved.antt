@@ -1,5 +1,5 @@
 -- Bytes are moved up by one slot, one at a time, from the last byte to the first. After some of these moves the board
--- is `moved_up` from a higher start, and moving one more byte lowers that start by one (`move-next`).
+-- is `moved_up` from a higher start, and moving one more byte lowers that start by one (`move_next`).
 use mathlib.Core.Path.{◌≡◌, sym, ap, ◌∙◌}
 use mathlib.Core.List.{List, ◌∷◌, ◌++◌, append_assoc, append-nil}
 use Prim.Native.Nat.{ℕ, suc, ◌+◌, ◌-◌, ◌≤◌, ◌<◌}

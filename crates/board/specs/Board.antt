@@ -1,5 +1,6 @@
 -- A board of outcomes, one for each job, and what it becomes when a record is posted (02, A1). Definitions only.
-use Rattle.std.specs.Prelude.{◌≡◌, ℕ, zero, suc, ◌*◌, ◌<◌, Bool, true, cond, not, ◌&&◌, ◌||◌, List, [], ◌∷◌, ◌++◌, eqb, ltb, length, take, drop, replicate}
+use Rattle.std.specs.Prelude.{◌≡◌, ℕ, zero, suc, ◌*◌, ◌<◌, Bool, true, cond, not, ◌&&◌, ◌||◌, List, [], ◌∷◌, ◌++◌, eqb, ltb, length}
+use Rattle.std.specs.Prelude.{take, drop, replicate}
 use Rattle.records.specs.Layout.{answer_room, job_of, revision_of}
 use Rattle.records.specs.Records.{conflict_bytes}
 use Rattle.outcomes.specs.Outcomes.{is_outcome}

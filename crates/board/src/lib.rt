@@ -1,4 +1,6 @@
 // A board of outcomes in a lent buffer: one slot for each job, by rising job number (02, A1).
+#![tactic(auto)]
+
 ghost use Rattle.std.specs.Prelude.{◌≡◌};
 ghost use Rattle.board.specs.Board.{post_of};
 
@@ -17,7 +19,7 @@ pub const BOARD_SIZE: usize = SLOTS * records::ANSWER_ROOM;
 
 // The result of posting a record. `Taken` includes a record that changes nothing because the board already holds it, a
 // newer one, or a conflict at its revision. `Refused` carries the number of the refusal, 0 to 3 for B0 to B3. A refusal changes nothing.
-#[derive(Drop)]
+#[derive(Clone, Copy)]
 pub enum Posted {
     Taken,
     Refused(u8),

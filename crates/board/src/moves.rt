@@ -15,7 +15,7 @@ use records::{ANSWER_ROOM, job_of, revision_of};
 // - `Enters(from, end)`: it gets a new slot at byte offset `from`, and the slots from there up to byte offset `end` are
 //   moved up by one slot.
 // - `NoneFree`: its job has no slot, and no slot is free.
-#[derive(Drop)]
+#[derive(Clone, Copy)]
 enum Route {
     Joins(usize),
     Enters(usize, usize),
@@ -84,7 +84,7 @@ fn job_in(board: &[u8], i: usize) -> u32
 }
 
 // The effect of a record on the slot of its job: none, the record replaces the content, or a conflict replaces it.
-#[derive(Drop)]
+#[derive(Clone, Copy)]
 enum Change {
     Nothing,
     Replaced,

@@ -1,5 +1,5 @@
--- A refusal whose number is in 01's table is a well-formed outcome, for any station and reason (`refusal-outcome`). So is an
--- answer with one to eight entries whose chosen ends are 0 or 1 (`answer-outcome`). Both hold for any job and revision. The
+-- A refusal whose number is in 01's table is a well-formed outcome, for any station and reason (`refusal_outcome`). So is an
+-- answer with one to eight entries whose chosen ends are 0 or 1 (`answer_outcome`). Both hold for any job and revision. The
 -- proofs read back each field that `is_outcome` tests. For the chosen ends this is an induction on the entries.
 use mathlib.Core.Path.{◌≡◌, refl}
 use mathlib.Core.Bool.{true}
@@ -18,8 +18,9 @@ use Rattle.records.specs.Records.{head_bytes, answer_head_of, refusal_bytes, ent
 use Rattle.records.specs.declared.Refusal.{Refusal}
 use Rattle.records.specs.declared.Entry.{Entry}
 use Rattle.records.proofs.Sizes.{head_length, entry_length, refusal_length}
-use Rattle.records.proofs.Answers.{answer-length}
-use Rattle.records.proofs.SingleFields.{refusal-size, refusal-kind, refusal_number, answer-size, answer-kind, answer-number, chosen_back}
+use Rattle.records.proofs.Answers.{answer_length}
+use Rattle.records.proofs.SingleFields.{refusal_size_lem, refusal_kind_lem, refusal_number, answer_size_lem, answer_kind_lem}
+use Rattle.records.proofs.SingleFields.{answer_number, chosen_back}
 use Rattle.outcomes.specs.Outcomes.{is_sized, is_refusal, all_name_an_end, is_answer, is_outcome}
 
 sized : (s : List ℕ) (n : ℕ) → length s ≡ n → size_of s ≡ n → is_sized s n ≡ true
@@ -32,9 +33,9 @@ pub refusal_outcome : (r : Refusal) → first_number ≤ r.number → r.number �
 unfolding is_outcome is_refusal
 refusal_outcome r low high =
     let s = refusal_bytes r in
-    let size = sized s (refusal_size r.number) (refusal_length r) (refusal-size r) in
+    let size = sized s (refusal_size r.number) (refusal_length r) (refusal_size_lem r) in
     rw (
-      refusal-kind r,
+      refusal_kind_lem r,
       refusal_number r (omega arith),
       size,
       le-leb first_number r.number low,
@@ -74,6 +75,6 @@ answer_outcome job revision es low high ends =
     let n = length es in
     let h = answer_head_of job revision n in
     let s = answer_bytes job revision es in
-    let size = sized s (answer_size n) (answer-length job revision es) (answer-size job revision es high) in
+    let size = sized s (answer_size n) (answer_length job revision es) (answer_size_lem job revision es high) in
     let named : all_name_an_end n s ≡ true = all_name n s (λ i l. rw (head_length h) at (chosen_low (head_bytes h) es i ends l)) in
-    rw (answer-kind job revision es high, answer-number job revision es high, size, named, le-leb 1 n low, le-leb n most_entries high)
+    rw (answer_kind_lem job revision es high, answer_number job revision es high, size, named, le-leb 1 n low, le-leb n most_entries high)

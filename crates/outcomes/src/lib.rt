@@ -1,4 +1,6 @@
 // Recognizes outcomes: decides whether bytes are a well-formed answer or refusal, or malformed (02, A1 and A4).
+#![tactic(auto)]
+
 ghost use Rattle.std.specs.Prelude.{◌≡◌};
 ghost use Rattle.outcomes.specs.Outcomes.{is_sized, is_refusal, all_name_an_end, is_answer, is_outcome};
 

@@ -1,4 +1,4 @@
--- The loop step of `fill`: storing the next byte preserves the loop invariant (`fill-next`).
+-- The loop step of `fill`: storing the next byte preserves the loop invariant (`fill_next`).
 use Prim.Native.Nat.{ℕ, ◌+◌, ◌<◌}
 use mathlib.Core.Path.{◌≡◌, sym, ◌∙◌}
 use mathlib.Core.List.{List}

@@ -1,6 +1,6 @@
 -- The bytes that a slot may hold and the slot that holds them determine each other. If bytes that a slot may hold are
--- put into a slot, its content is those bytes (`content-back`), and a filled slot is the slot made from its content
--- (`slot-back`). An outcome is not a conflict (`outcome-no-conflict`).
+-- put into a slot, its content is those bytes (`content_back`), and a filled slot is the slot made from its content
+-- (`slot_back`). An outcome is not a conflict (`outcome_no_conflict`).
 use mathlib.Core.Path.{◌≡◌, refl, sym, ap, ◌∙◌}
 use mathlib.Core.Bool.{Bool, true, false, ◌&&◌, ◌||◌}
 use mathlib.Core.List.{List, ◌++◌}
@@ -10,8 +10,10 @@ use borrow.Author.Tests.{eqb-true, ne_eqb, leb-true}
 use lib.Dec.{eqb, leb}
 use lib.ListN.{length, take, drop, replicate, length-take, length-drop, take-append-drop}
 use lib.Seq.{take_at, drop_at}
-use Rattle.records.specs.Layout.{Field, LENGTH, JOB, REVISION, answer_kind, refusal_kind, conflict_kind, first_number, last_number, most_entries}
-use Rattle.records.specs.Layout.{refusal_size, answer_size, conflict_size, answer_room, value_of, kind_of, job_of, revision_of, number_of, size_of}
+use Rattle.records.specs.Layout.{Field, LENGTH, JOB, REVISION, answer_kind, refusal_kind, conflict_kind, first_number, last_number}
+use Rattle.records.specs.Layout.{most_entries}
+use Rattle.records.specs.Layout.{refusal_size, answer_size, conflict_size, answer_room, value_of, kind_of, job_of, revision_of}
+use Rattle.records.specs.Layout.{number_of, size_of}
 use Rattle.records.proofs.Sizes.{refusal_room, answer_room_lem}
 use Rattle.outcomes.specs.Outcomes.{is_sized, is_between, is_refusal, all_name_an_end, is_answer, is_outcome}
 use Rattle.slots.specs.Slots.{slot_of, content_of, is_conflict, is_held, is_zero, is_filled}
@@ -121,8 +123,8 @@ pub slot_revision : (c : List ℕ) → revision_of (slot_of c) ≡ revision_of c
 slot_revision c = slot_field REVISION c (omega arith)
 
 module _ (c : List ℕ) (held : is_held c ≡ true) where
-  pub held-size : length c ≡ size_of c
-  held-size = (held_sizes c held).says
+  pub held_size : length c ≡ size_of c
+  held_size = (held_sizes c held).says
 
   pub held_low : conflict_size ≤ length c
   held_low = (held_sizes c held).low
@@ -130,31 +132,31 @@ module _ (c : List ℕ) (held : is_held c ≡ true) where
   pub held_fits : length c ≤ answer_room
   held_fits = (held_sizes c held).high
 
-  -- The slot is the bytes followed by zeros (`slot_is`), and its length field gives their size (`slot-size`).
+  -- The slot is the bytes followed by zeros (`slot_is`), and its length field gives their size (`slot_size`).
   slot_is : slot_of c ≡ c ++ replicate (answer_room - length c) 0
   slot_is = padded_is answer_room c held_fits
 
-  slot-size : size_of (slot_of c) ≡ length c
-  slot-size = ap (λ (n : ℕ). n + LENGTH.width) (slot_field LENGTH c (omega arith)) ∙ sym held-size
+  slot_size : size_of (slot_of c) ≡ length c
+  slot_size = ap (λ (n : ℕ). n + LENGTH.width) (slot_field LENGTH c (omega arith)) ∙ sym held_size
 
-  pub content-back : content_of (slot_of c) ≡ c
+  pub content_back : content_of (slot_of c) ≡ c
   unfolding content_of
-  content-back = rw (slot-size, slot_is) (take_at c (replicate (answer_room - length c) 0) (length c) refl)
+  content_back = rw (slot_size, slot_is) (take_at c (replicate (answer_room - length c) 0) (length c) refl)
 
-  pub slot-filled : is_filled (slot_of c) ≡ true
+  pub slot_filled : is_filled (slot_of c) ≡ true
   unfolding is_filled
-  slot-filled =
+  slot_filled =
       let rest : List ℕ = replicate (answer_room - length c) 0 in
-      rw (content-back, held, slot-size, slot_is, drop_at c rest (length c) refl) (zeros_zero (answer_room - length c))
+      rw (content_back, held, slot_size, slot_is, drop_at c rest (length c) refl) (zeros_zero (answer_room - length c))
 
-  pub slot-named : value_of LENGTH (slot_of c) ≡ 0 → ⊥
-  slot-named e = omega (arith, slot-size, held_low)
+  pub slot_named : value_of LENGTH (slot_of c) ≡ 0 → ⊥
+  slot_named e = omega (arith, slot_size, held_low)
 
-  pub slot-not-zero : is_zero (slot_of c) ≡ false
-  slot-not-zero = by (is_zero (slot_of c)) refl
+  pub slot_not_zero : is_zero (slot_of c) ≡ false
+  slot_not_zero = by (is_zero (slot_of c)) refl
     where
       by : (t : Bool) → is_zero (slot_of c) ≡ t → t ≡ false
-      by true e = absurd (slot-named (zero_number (slot_of c) e LENGTH.width LENGTH.offset))
+      by true e = absurd (slot_named (zero_number (slot_of c) e LENGTH.width LENGTH.offset))
       by false e = refl
 
 -- ---- from a filled slot to its content, and back
@@ -164,22 +166,22 @@ module _ (s : List ℕ) (filled : is_filled s ≡ true) where
   unfolding is_filled
   parts = both (is_held (content_of s)) (is_zero (drop (size_of s) s)) filled
 
-  pub content-held : is_held (content_of s) ≡ true
-  content-held = parts.0
+  pub content_held : is_held (content_of s) ≡ true
+  content_held = parts.0
 
-  pub content-job : job_of (content_of s) ≡ job_of s
+  pub content_job : job_of (content_of s) ≡ job_of s
   unfolding content_of
-  content-job =
-      let low = held_low (content_of s) content-held in
+  content_job =
+      let low = held_low (content_of s) content_held in
       number_take JOB.width (size_of s) JOB.offset s (omega (arith, low, length-take (size_of s) s))
 
-  pub slot-back : length s ≡ answer_room → s ≡ slot_of (content_of s)
+  pub slot_back : length s ≡ answer_room → s ≡ slot_of (content_of s)
   unfolding content_of
-  slot-back whole =
+  slot_back whole =
       let n = size_of s in
       let content = take n s in
       let rest : length (drop n s) ≡ answer_room - length content = simp (length-drop, length-take, whole) (omega arith) in
-      sym (padded_is answer_room content (held_fits content content-held)
+      sym (padded_is answer_room content (held_fits content content_held)
       ∙ ap (λ (k : ℕ). content ++ replicate k 0) (sym rest)
       ∙ ap (λ (l : List ℕ). content ++ l) (sym (zero_is (drop n s) parts.1))
       ∙ take-append-drop n s)

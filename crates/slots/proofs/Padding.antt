@@ -1,5 +1,5 @@
--- Bytes padded with zeros up to a size (`padded`): how many they are (`padded-length`), the byte at each index
--- (`padded-at`), the zeros at the end if the bytes fit (`padded-is`), and the numbers stored in them (`number-padded`).
+-- Bytes padded with zeros up to a size (`padded`): how many they are (`padded_length`), the byte at each index
+-- (`padded_at`), the zeros at the end if the bytes fit (`padded_is`), and the numbers stored in them (`number_padded`).
 use mathlib.Core.Path.{◌≡◌, refl, ap, ◌∙◌}
 use mathlib.Core.List.{List, [], ◌∷◌, ◌++◌}
 use Prim.Native.Nat.{ℕ, zero, suc, ◌+◌, ◌-◌, ◌≤◌, ◌<◌}

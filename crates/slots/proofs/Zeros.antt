@@ -1,5 +1,5 @@
--- What the tests on bytes mean: `is_zero` is true exactly for lists of zeros (`zero_is`, `zeros-zero`), and `same_bytes`
--- is true exactly for equal lists (`same-is`, `same_self`). `both` splits a conjunction of two tests.
+-- What the tests on bytes mean: `is_zero` is true exactly for lists of zeros (`zero_is`, `zeros_zero`), and `same_bytes`
+-- is true exactly for equal lists (`same_is`, `same_self`). `both` splits a conjunction of two tests.
 use mathlib.Core.Path.{◌≡◌, refl, sym, ap, ◌∙◌}
 use mathlib.Core.Bool.{Bool, true, false, ◌&&◌, and_assoc, true≢false}
 use mathlib.Core.List.{List, [], ◌∷◌, ◌++◌}

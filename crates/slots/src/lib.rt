@@ -1,4 +1,6 @@
 // One slot of a board: tests what it holds, and fills it (02, A1).
+#![tactic(auto)]
+
 ghost use Rattle.std.specs.Prelude.{◌≡◌, min, length};
 ghost use Rattle.records.specs.Layout.{size_of};
 ghost use Rattle.records.specs.Records.{conflict_bytes};

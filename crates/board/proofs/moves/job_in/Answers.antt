@@ -1,0 +1,11 @@
+-- `job_in` meets its contract. The slice that it reads contains all bytes from the start of the slot on.
+use mathlib.Core.Path.{ap, ◌∙◌}
+use Prim.Native.Nat.{◌*◌}
+use Rattle.records.specs.Layout.{answer_room, job_of}
+use Rattle.board.proofs.Checked.{rest_is}
+use Rattle.board.proofs.moves.job_in.Goals as goal
+
+pub returns : goal.returns
+returns c =
+    let a = c.args in
+    c.job_of.ensures ∙ ap job_of (rest_is (a.i * answer_room) a.board.now)

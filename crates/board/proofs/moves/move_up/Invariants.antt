@@ -1,0 +1,12 @@
+-- `move_up` meets its contract. The loop invariant: the bytes from i up to `to` have been moved, so the board is
+-- `moved_up` from i. The measure is the distance of i from `from`.
+use mathlib.Core.Path.{◌≡◌}
+use Prim.Native.Nat.{◌-◌, ◌≤◌}
+use Rattle.board.specs.Internals.{moved_up}
+use Rattle.board.proofs.moves.move_up.Given as goal
+
+abbrev pub invariant-loop-i : goal.invariant-loop-i
+invariant-loop-i l = (l.from ≤ l.i) × ((l.i ≤ l.to) × (l.board ≡ moved_up l.i l.to l.initial.board))
+
+abbrev pub decreases-loop-i : goal.decreases-loop-i
+decreases-loop-i l = l.i - l.from
