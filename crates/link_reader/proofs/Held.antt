@@ -1,4 +1,4 @@
--- Byte i of the kept bytes followed by a piece is a kept byte (`at-kept`), a byte of the piece (`at_piece`), or 0 past both (`at_none`).
+-- Byte i of the kept bytes followed by a piece is a kept byte (`at_kept`), a byte of the piece (`at_piece`), or 0 past both (`at_none`).
 use mathlib.Core.Path.{◌≡◌, refl, ap, ◌∙◌}
 use mathlib.Core.List.{List, [], ◌∷◌, ◌++◌}
 use Prim.Native.Nat.{ℕ, zero, suc, ◌+◌, ◌-◌, ◌≤◌, ◌<◌}

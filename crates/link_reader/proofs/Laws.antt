@@ -1,5 +1,5 @@
--- Two facts about the step of any call, whatever the state: it takes no more bytes than the piece has (`taken-within`), and a finished
--- question fits the buffer (`question-fits`).
+-- Two facts about the step of any call, whatever the state: it takes no more bytes than the piece has (`taken_within`), and a finished
+-- question fits the buffer (`question_fits`).
 use mathlib.Core.Path.{◌≡◌, refl}
 use mathlib.Core.List.{List}
 use Prim.Native.Nat.{ℕ, ◌+◌, ◌-◌, ◌≤◌}

@@ -1,4 +1,4 @@
--- A question whose length is in force fits the buffer (`in-force-fits`): every length in the list does (`among-fits`, by induction on the
+-- A question whose length is in force fits the buffer (`in_force_fits`): every length in the list does (`among_fits`, by induction on the
 -- list).
 use mathlib.Core.Path.{◌≡◌, refl}
 use mathlib.Core.Bool.{Bool, true, false, ◌&&◌, ◌||◌}

@@ -1,4 +1,4 @@
--- The result of a call has the refusal that `refusal_for` gives for the reader and the piece (`refusal-given`). If a length was refused
+-- The result of a call has the refusal that `refusal_for` gives for the reader and the piece (`refusal_given`). If a length was refused
 -- before, it is B4. Otherwise the proof goes through the four cases of `Verdict`.
 use mathlib.Core.Path.{◌≡◌, refl, ap, ◌∙◌}
 use mathlib.Core.Bool.{Bool, true, false, cond}

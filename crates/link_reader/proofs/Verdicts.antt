@@ -1,6 +1,6 @@
--- The result of `judged` has a `Verdict` (`verdict`), and a `Verdict` determines the result of `judged` (`judged-by`). Later lemmas go
--- through the four cases of `Verdict`. The bytes of an unfinished question fit the buffer (`part-fits`), and so do those of a finished
--- one (`whole-fits`).
+-- The result of `judged` has a `Verdict` (`verdict`), and a `Verdict` determines the result of `judged` (`judged_by`). Later lemmas go
+-- through the four cases of `Verdict`. The bytes of an unfinished question fit the buffer (`part_fits`), and so do those of a finished
+-- one (`whole_fits`).
 use mathlib.Core.Path.{◌≡◌, refl, ap, ◌∙◌}
 use mathlib.Core.Bool.{Bool, true, false, not, cond, true≢false}
 use mathlib.Core.List.{List, ◌++◌}
@@ -50,7 +50,7 @@ part_fits {s} (part n f l) = omega (arith, in_force_fits (value_of LENGTH s) f)
 pub whole_fits : {s : List ℕ} {size : ℕ} → Verdict s (Question size) → (size ≤ length s) × (size ≤ question_room)
 whole_fits {s} (whole n f l e) = (omega arith, omega (arith, in_force_fits (value_of LENGTH s) f))
 
--- Whether a result is `NeedsReset`. If it is not, the bytes held decide it (`came-verdict`).
+-- Whether a result is `NeedsReset`. If it is not, the bytes held decide it (`came_verdict`).
 abbrev pub needs_reset : Came → Bool
 needs_reset NeedsReset = true
 needs_reset (Question size) = false

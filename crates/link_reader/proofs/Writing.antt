@@ -13,7 +13,7 @@ use lib.ListN.{length, take, drop, length-append, take-append-drop}
 use lib.Seq.{paste, paste-zero, take-append-add, take-append-le, take-take, take_all, length-take-le}
 use Rattle.little_endian.specs.Bytes.{written}
 use Rattle.little_endian.proofs.Laid.{laid}
-use Rattle.little_endian.proofs.Cuts.{take-cut}
+use Rattle.little_endian.proofs.Cuts.{take_cut}
 use Rattle.records.specs.Layout.{question_room}
 use Rattle.link_reader.specs.declared.Reader.{Reader}
 use Rattle.link_reader.specs.declared.Came.TheVariants.{Question, Nothing}
@@ -59,17 +59,17 @@ module _ (room piece : List ℕ) (n size : ℕ) (within : n ≤ length room) (fi
       by true e = more (leb-true n size e) k
       by false e = fewer (omega (arith, leb-false n size e))
 
--- A count cut to the buffer's size takes the same bytes as the count itself (`cut-kept`), and it is the number of these bytes
--- (`cut-count`).
+-- A count cut to the buffer's size takes the same bytes as the count itself (`cut_kept`), and it is the number of these bytes
+-- (`cut_count`).
 module _ (r : Reader) (n : ℕ) (long : length r.bytes ≡ question_room) (cut : n ≡ min r.count question_room) where
-  cut-within : n ≤ length r.bytes
-  cut-within = omega (arith, cut, long, min-le_right r.count question_room)
+  cut_within : n ≤ length r.bytes
+  cut_within = omega (arith, cut, long, min-le_right r.count question_room)
 
-  cut-kept : take n r.bytes ≡ kept_of r
-  cut-kept = ap (λ (k : ℕ). take k r.bytes) (cut ∙ ap (min r.count) (sym long)) ∙ take-cut r.count r.bytes
+  cut_kept : take n r.bytes ≡ kept_of r
+  cut_kept = ap (λ (k : ℕ). take k r.bytes) (cut ∙ ap (min r.count) (sym long)) ∙ take_cut r.count r.bytes
 
-  pub cut-count : length (kept_of r) ≡ n
-  cut-count = ap length (sym cut-kept) ∙ length-take-le n r.bytes cut-within
+  pub cut_count : length (kept_of r) ≡ n
+  cut_count = ap length (sym cut_kept) ∙ length-take-le n r.bytes cut_within
 
   module _ (piece bytes : List ℕ) where
     pub keeps : length (kept_of r) + length piece ≤ question_room → bytes ≡ paste r.bytes n piece (length piece) →
@@ -82,13 +82,13 @@ module _ (r : Reader) (n : ℕ) (long : length r.bytes ≡ question_room) (cut :
     unfolding step_by
     keeps h e =
         let all : length (kept_of r ++ piece) ≡ n + length piece =
-        length-append (kept_of r) piece ∙ ap (λ (k : ℕ). k + length piece) cut-count in
+        length-append (kept_of r) piece ∙ ap (λ (k : ℕ). k + length piece) cut_count in
         let d : n + length piece - n ≡ length piece = omega arith in
         let b : bytes ≡ written r.bytes (kept_of r ++ piece) =
         e
         ∙ ap (paste r.bytes n piece) (sym d)
-        ∙ pasted r.bytes piece n (n + length piece) cut-within (omega (arith, long, cut-count)) (omega arith)
-        ∙ ap (λ (k : List ℕ). written r.bytes (take (n + length piece) (k ++ piece))) cut-kept
+        ∙ pasted r.bytes piece n (n + length piece) cut_within (omega (arith, long, cut_count)) (omega arith)
+        ∙ ap (λ (k : List ℕ). written r.bytes (take (n + length piece) (k ++ piece))) cut_kept
         ∙ ap (written r.bytes) (take_all (n + length piece) (kept_of r ++ piece) (omega (arith, all))) in
         cc (b, all)
 
@@ -100,7 +100,7 @@ module _ (r : Reader) (n : ℕ) (long : length r.bytes ≡ question_room) (cut :
         let b : bytes ≡ written r.bytes (take size (kept_of r ++ piece)) =
         e
         ∙ ap (paste r.bytes n piece) u
-        ∙ pasted r.bytes piece n size cut-within (omega (arith, long)) (omega (arith, cut-count))
-        ∙ ap (λ (k : List ℕ). written r.bytes (take size (k ++ piece))) cut-kept in
-        let t : taken ≡ size - length (kept_of r) = u ∙ omega (arith, cut-count) in
+        ∙ pasted r.bytes piece n size cut_within (omega (arith, long)) (omega (arith, cut_count))
+        ∙ ap (λ (k : List ℕ). written r.bytes (take size (k ++ piece))) cut_kept in
+        let t : taken ≡ size - length (kept_of r) = u ∙ omega (arith, cut_count) in
         cc (b, t, f)

@@ -1,5 +1,7 @@
 // Reads questions that arrive over a link in pieces of any size (02, A2). Each call takes a piece and returns the next state, how many
 // bytes it took, and its result. The caller passes in again the bytes that the call did not take.
+#![tactic(auto)]
+
 ghost use Rattle.std.specs.Prelude.{◌≡◌, ◌+◌, ◌≤◌, length};
 ghost use Rattle.std.proofs.Math.Seq.{paste};
 ghost use Rattle.records.specs.Layout.{question_room};
@@ -13,7 +15,7 @@ use records::QUESTION_ROOM;
 
 // The state of a reader: the bytes received of an unfinished question, their count, and whether a length was refused since the last
 // reset.
-#[derive(Drop)]
+#[derive(Clone, Copy)]
 pub struct Reader {
     pub bytes: [u8; QUESTION_ROOM],
     pub count: usize,
@@ -22,7 +24,7 @@ pub struct Reader {
 
 // The result of a call: a finished question with its size; nothing yet; a length that is not in force, which is refused; or a reader that
 // needs a reset, which is a refusal too. The definition `refusal_of` gives the numbers of the two refusals.
-#[derive(Drop)]
+#[derive(Clone, Copy)]
 pub enum Came {
     Question(usize),
     Nothing,
@@ -32,7 +34,7 @@ pub enum Came {
 
 // What a call returns: the next state, how many bytes of the piece it took, its result, and a buffer. The buffer begins with the bytes of
 // a finished question; it is all zeros if no question is finished.
-#[derive(Drop)]
+#[derive(Clone, Copy)]
 pub struct Step {
     pub next: Reader,
     pub taken: usize,

@@ -4,12 +4,8 @@ use mathlib.Core.Bool.{or-false}
 use lib.Dec.{eqb}
 use Rattle.records.specs.Layout.{question_length, question_lengths}
 use Rattle.link_reader.specs.Reading.{is_among}
-use Rattle.link_reader.proofs.judging.is_question_length.Statement.{statement}
-use Rattle.link_reader.proofs.judging.is_question_length.Tie as tie
+use Rattle.link_reader.proofs.judging.is_question_length.Goals as goal
 
-returns : tie.Need-returns
+pub returns : goal.returns
 unfolding is_among question_lengths
 returns c = sym (or-false (eqb c.args.length question_length))
-
-pub is-question-length-spec : {M : Type 1} → statement M
-is-question-length-spec = tie.close (tie.spec returns)
