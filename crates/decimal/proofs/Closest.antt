@@ -1,5 +1,5 @@
--- `closest n d`, the whole number nearest to n / d, ties to even, by its three cases (`closest-chosen`). A number that one of the
--- cases chooses for the quotient and the remainder of n by d is `closest n d` (`closest-is`).
+-- `closest n d`, the whole number nearest to n / d, ties to even, by its three cases (`closest_chosen`). A number that one of the
+-- cases chooses for the quotient and the remainder of n by d is `closest n d` (`closest_is`).
 use mathlib.Core.Path.{◌≡◌, refl, ap, ◌∙◌, subst}
 use mathlib.Core.Bool.{not}
 use Prim.Native.Nat.{ℕ, suc, ◌+◌, ◌*◌, ◌/◌, ◌%◌, ◌≤◌, ◌<◌, compare, Ordering}
@@ -25,7 +25,8 @@ pub compared : (a b : ℕ) → Compared (compare a b) a b
 compared a b =
     go (compare a b) (leb→le a b) (nleb→lt a b) (eqb→eq a b) (λ (e : a ≡ b). subst (λ (x : ℕ). T (eqb a x)) e (eqb_refl a))
   where
-    go : (o : Ordering) → (T (is_le o) → a ≤ b) → (T (not (is_le o)) → b < a) → (T (compare_is_eq o) → a ≡ b) → (a ≡ b → T (compare_is_eq o)) → Compared o a b
+    go : (o : Ordering) → (T (is_le o) → a ≤ b) → (T (not (is_le o)) → b < a) → (T (compare_is_eq o) → a ≡ b) →
+        (a ≡ b → T (compare_is_eq o)) → Compared o a b
     go Ordering.lt h k e n = lt_of_le-ne (h tt) n
     go Ordering.eq h k e n = e tt
     go Ordering.gt h k e n = k tt

@@ -1,5 +1,5 @@
--- The decimal digits of a number as bytes: how many there are (`length-padded`), and which one is at each index (`padded-at`). How
--- many digits a whole part is written with (`digit-count-range`). One turn of the loop of `value_at` (`one_more`, `bounded`).
+-- The decimal digits of a number as bytes: how many there are (`length_padded`), and which one is at each index (`padded_at`). How
+-- many digits a whole part is written with (`digit_count_range`). One turn of the loop of `value_at` (`one_more`, `bounded`).
 use mathlib.Core.Path.{◌≡◌, refl, sym, ap, ◌∙◌}
 use mathlib.Core.Bool.{Bool, true, false, cond}
 use mathlib.Core.List.{List, [], ◌∷◌, ◌++◌}

@@ -1,5 +1,5 @@
 -- The test of `rounded`, on plain numbers: high is q * 2h + r, so high * 2 ^ 27 + low has the quotient q and the remainder
--- r * 2 ^ 27 + low by 2 ^ 28 * h. If the test is true, the result is q + 1 (`rounded-up`), and otherwise q (`rounded-down`).
+-- r * 2 ^ 27 + low by 2 ^ 28 * h. If the test is true, the result is q + 1 (`rounded_up`), and otherwise q (`rounded_down`).
 use mathlib.Core.Path.{◌≡◌, refl, sym, ap, ◌∙◌, subst}
 use mathlib.Core.Bool.{Bool, true, false, ◌&&◌, ◌||◌, true≢false, false≢true}
 use Prim.Native.Nat.{ℕ, ◌+◌, ◌*◌, ◌/◌, ◌%◌, ◌^◌, ◌≤◌, ◌<◌}
@@ -73,28 +73,28 @@ module _ (high low k h : ℕ) (small : low < 2 ^ 27) (is : h ≡ 2 ^ k) where
       less : (r : ℕ) → r < 2 * h → r * 2 ^ 27 + low < 2 ^ 28 * h
       less r l = omega arith
 
-  rounded-to : (c : ℕ) → Chosen (high / (2 * h)) (high % (2 * h) * 2 ^ 27 + low) (2 ^ 28 * h) c
+  rounded_to : (c : ℕ) → Chosen (high / (2 * h)) (high % (2 * h) * 2 ^ 27 + low) (2 ^ 28 * h) c
       → c ≡ closest (high * 2 ^ 27 + low) (2 ^ (28 + k))
-  rounded-to c chosen =
+  rounded_to c chosen =
       let n = high * 2 ^ 27 + low in
       let q = high / (2 * h) in
       let r = high % (2 * h) * 2 ^ 27 + low in
       closest_is n (2 ^ 28 * h) q r c parts rest_below chosen ∙ ap (closest n) divisor
 
-  pub rounded-up : goes_up h (high / (2 * h)) (high % (2 * h)) low ≡ true
+  pub rounded_up : goes_up h (high / (2 * h)) (high % (2 * h)) low ≡ true
       → high / (2 * h) + 1 ≡ closest (high * 2 ^ 27 + low) (2 ^ (28 + k))
-  rounded-up t =
+  rounded_up t =
       let q = high / (2 * h) in
       let r = high % (2 * h) in
       let chosen = ups h q r low small (ltb h r) (eqb r h) (ltb 0 low) (eqb (q % 2) 1)
       (ltb-true h r) (eqb-true r h) (ltb-true 0 low) (ltb-false 0 low) (eqb-true (q % 2) 1) t in
-      rounded-to (q + 1) chosen
+      rounded_to (q + 1) chosen
 
-  pub rounded-down : goes_up h (high / (2 * h)) (high % (2 * h)) low ≡ false
+  pub rounded_down : goes_up h (high / (2 * h)) (high % (2 * h)) low ≡ false
       → high / (2 * h) ≡ closest (high * 2 ^ 27 + low) (2 ^ (28 + k))
-  rounded-down t =
+  rounded_down t =
       let q = high / (2 * h) in
       let r = high % (2 * h) in
       let chosen = stays h q r low small (ltb h r) (eqb r h) (ltb 0 low) (eqb (q % 2) 1)
       (ltb-false h r) (eqb-true r h) (eqb-false r h) (ltb-false 0 low) (eqb-false (q % 2) 1) t in
-      rounded-to q chosen
+      rounded_to q chosen

@@ -1,5 +1,5 @@
 -- The loop of `text_of`: after i turns the bytes are the first i bytes of the text and zeros. One turn keeps this (`stored`), and at
--- the end the bytes are the text and zeros (`all-stored`). The first bytes of the result are the text (`text-held`).
+-- the end the bytes are the text and zeros (`all_stored`). The first bytes of the result are the text (`text_held`).
 use mathlib.Core.Path.{◌≡◌, refl, sym, ap, ◌∙◌}
 use mathlib.Core.List.{List, [], ◌∷◌, ◌++◌}
 use Prim.Native.Nat.{ℕ, suc, ◌+◌, ◌-◌, ◌<◌}

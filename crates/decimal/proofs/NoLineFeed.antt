@@ -1,4 +1,4 @@
--- No byte of the text of a decimal is LF, the byte 10 (`no-line-feed`): each is a minus sign, a digit or the point.
+-- No byte of the text of a decimal is LF, the byte 10 (`no_line_feed`): each is a minus sign, a digit or the point.
 use mathlib.Core.Path.{◌≡◌, sym, ◌∙◌}
 use mathlib.Core.Bool.{Bool, true, false}
 use mathlib.Core.List.{List, [], ◌∷◌, ◌++◌}

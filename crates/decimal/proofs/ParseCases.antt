@@ -1,8 +1,8 @@
--- The results of `decimal_in` with a minus sign and without one (`with-minus`, `without-minus`), and the results of `parse`. If the
--- length is not 11 to 18, the bytes are no text of a decimal (`length-refused`). Otherwise the tests of `parse` are those of
--- `is_decimal_text` (`number-parsed`, `refusal-parsed`).
+-- The results of `decimal_in` with a minus sign and without one (`with_minus`, `without_minus`), and the results of `parse`. If the
+-- length is not 11 to 18, the bytes are no text of a decimal (`length_refused`). Otherwise the tests of `parse` are those of
+-- `is_decimal_text` (`number_parsed`, `refusal_parsed`).
 use mathlib.Core.Path.{◌≡◌, refl, sym, ap, ◌∙◌}
-use mathlib.Core.Bool.{Bool, true, false, ◌&&◌, ◌||◌, true≢false, false≢true, and_false}
+use mathlib.Core.Bool.{Bool, true, false, ◌&&◌, ◌||◌, true≢false, false≢true, and-false}
 use mathlib.Core.List.{List}
 use Prim.Native.Nat.{ℕ, ◌-◌, ◌≤◌, ◌<◌}
 use native.Mathlib.Omega.{arith}
@@ -79,7 +79,7 @@ length_refused s e =
     let t = text_of (decimal_in s) in
     let other : same_text s t ≡ false = lengths_differ s t (outside s t e (length_range (decimal_in s))) in
     let formed = is_well_formed (decimal_in s) in
-    sym (parse_refused s (ap (λ (b : Bool). formed && b) other ∙ and_false formed))
+    sym (parse_refused s (ap (λ (b : Bool). formed && b) other ∙ and-false formed))
 
 -- The tests of `parse` on d, which is the decimal that the bytes show.
 module _ (s : List ℕ) (d : Decimal) (formed match : Bool) (shown : d ≡ decimal_in s) (is_formed : formed ≡ is_well_formed d)
@@ -91,8 +91,8 @@ module _ (s : List ℕ) (d : Decimal) (formed match : Bool) (shown : d ≡ decim
       ∙ ap (λ (b : Bool). is_well_formed d && b) is-match
       ∙ ap (λ (e : Decimal). is_well_formed e && same_text s (text_of e)) shown
 
-  pub number-parsed : formed && match ≡ true → Number d ≡ parse_of s
-  number-parsed e = ap Number shown ∙ sym (parse_number s (sym tests ∙ e))
+  pub number_parsed : formed && match ≡ true → Number d ≡ parse_of s
+  number_parsed e = ap Number shown ∙ sym (parse_number s (sym tests ∙ e))
 
-  pub refusal-parsed : formed && match ≡ false → Refused ≡ parse_of s
-  refusal-parsed e = sym (parse_refused s (sym tests ∙ e))
+  pub refusal_parsed : formed && match ≡ false → Refused ≡ parse_of s
+  refusal_parsed e = sym (parse_refused s (sym tests ∙ e))

@@ -1,6 +1,6 @@
--- What `scaled` and `count_of` hand on, on plain numbers. The product of a significand and 10 ^ 9 in two parts (`in-two-parts`). The
--- quotients below one half (`below_half`). The units of a pattern, as a significand over a smaller power of two (`count-subnormal`,
--- `count-normal`).
+-- What `scaled` and `count_of` hand on, on plain numbers. The product of a significand and 10 ^ 9 in two parts (`in_two_parts`). The
+-- quotients below one half (`below_half`). The units of a pattern, as a significand over a smaller power of two (`count_subnormal`,
+-- `count_normal`).
 use mathlib.Core.Path.{◌≡◌, refl, sym, ap, ◌∙◌}
 use Prim.Native.Nat.{ℕ, zero, suc, ◌+◌, ◌-◌, ◌*◌, ◌/◌, ◌%◌, ◌^◌, ◌≤◌, ◌<◌}
 use native.Mathlib.Nat.{mod-eq_of_lt, mul-one, one-mul, lt_of_lt_of_le, lt_trans, zero-mul, zero-add}
@@ -41,13 +41,13 @@ below_half m s h l =
     let n = m * 10 ^ 9 in
     let wide : 2 ^ 87 ≤ 2 ^ s = pow_mono l in
     let parts : n ≡ 0 * 2 ^ s + n = sym (zero-add n) ∙ ap (λ (x : ℕ). x + n) (sym (zero-mul (2 ^ s))) in
-    closest_is n (2 ^ s) 0 n 0 parts (lt_of_lt_of_le (small m h) wide) (down (lt_of_lt_of_le (small-twice m h) wide))
+    closest_is n (2 ^ s) 0 n 0 parts (lt_of_lt_of_le (small m h) wide) (down (lt_of_lt_of_le (small_twice m h) wide))
   where
     small : (x : ℕ) → x < 2 ^ 53 → x * 10 ^ 9 < 2 ^ 87
     small x g = omega arith
 
-    small-twice : (x : ℕ) → x < 2 ^ 53 → x * 10 ^ 9 * 2 < 2 ^ 87
-    small-twice x g = omega arith
+    small_twice : (x : ℕ) → x < 2 ^ 53 → x * 10 ^ 9 * 2 < 2 ^ 87
+    small_twice x g = omega arith
 
 -- ---- `count_of`
 

@@ -1,5 +1,5 @@
--- The test `same_text` is true of two texts exactly if they are equal (`same_true`, `same-itself`). It is false if the lengths differ
--- (`lengths_differ`) or if the bytes at some index differ (`bytes-differ`).
+-- The test `same_text` is true of two texts exactly if they are equal (`same_true`, `same_itself`). It is false if the lengths differ
+-- (`lengths_differ`) or if the bytes at some index differ (`bytes_differ`).
 use mathlib.Core.Path.{◌≡◌, refl, sym, ap, ◌∙◌}
 use mathlib.Core.Bool.{Bool, true, false, ◌&&◌, false≢true}
 use mathlib.Core.List.{List, [], ◌∷◌}

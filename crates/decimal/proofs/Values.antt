@@ -1,6 +1,6 @@
--- From an f64 to its bit pattern. `round_of` depends only on the sign and the number of units of 2 ^ -1074 (`round-in-range`,
--- `round-out-of-range`). The pattern b without its sign bit is below the pattern of 10 ^ 7 exactly if the size is below 10 ^ 7
--- (`units-below`, `units-above`). `number-returned` and `refusal-returned` are the two results of `round`.
+-- From an f64 to its bit pattern. `round_of` depends only on the sign and the number of units of 2 ^ -1074 (`round_in_range`,
+-- `round_out_of_range`). The pattern b without its sign bit is below the pattern of 10 ^ 7 exactly if the size is below 10 ^ 7
+-- (`units_below`, `units_above`). `number_returned` and `refusal_returned` are the two results of `round`.
 use mathlib.Core.Path.{◌≡◌, refl, sym, ap, ◌∙◌, subst}
 use Prim.Native.Nat.{ℕ, zero, suc, ◌+◌, ◌-◌, ◌*◌, ◌/◌, ◌%◌, ◌^◌, ◌≤◌, ◌<◌}
 use native.Mathlib.Nat.{mul-div_cancel, mul-one, le_trans, le_of_eq, le_of_lt, lt_of_le_of_lt, mul-le-mul}
@@ -57,7 +57,8 @@ count_of_lem : (x : Float) (s : Bool) (n : ℕ) → HasValue x s n (2 ^ 1074) �
 unfolding count_of
 count_of_lem x s n h = ap (λ (y : ℕ). closest (y * 10 ^ 9) (2 ^ 1074)) (units_of_lem x s n h)
 
-decimal_of_lem : (x : Float) (s : Bool) (n : ℕ) → HasValue x s n (2 ^ 1074) → decimal_of x ≡ decimal_with s (closest (n * 10 ^ 9) (2 ^ 1074))
+decimal_of_lem : (x : Float) (s : Bool) (n : ℕ) → HasValue x s n (2 ^ 1074) →
+    decimal_of x ≡ decimal_with s (closest (n * 10 ^ 9) (2 ^ 1074))
 unfolding decimal_of
 decimal_of_lem x s n h = ap (λ (t : Bool). decimal_with t (count_of x)) (sign_of x s n h) ∙ ap (decimal_with s) (count_of_lem x s n h)
 

@@ -1,6 +1,8 @@
 // An f64 as a decimal number with nine decimals, and the text of such a number (02, A10). A decimal is a sign, a
 // whole part and billionths. `round` rounds to nearest, ties to even, judged against the exact value of the f64.
 // `text_of` writes the text of a decimal, and `parse` reads it back.
+#![tactic(auto)]
+
 ghost use Rattle.std.specs.Prelude.{◌≡◌};
 ghost use Rattle.decimal.specs.Decimals.{round_of};
 
@@ -13,7 +15,7 @@ pub use parsing::parse;
 pub use texts::{Text, text_of};
 
 // A number with nine decimals: its sign, its whole part, and the billionths after the point.
-#[derive(Drop)]
+#[derive(Clone, Copy)]
 pub struct Decimal {
     pub negative: bool,
     pub whole: u64,
@@ -21,7 +23,7 @@ pub struct Decimal {
 }
 
 // A decimal, or a refusal.
-#[derive(Drop)]
+#[derive(Clone, Copy)]
 pub enum DecimalResult {
     Number(Decimal),
     Refused,

@@ -6,7 +6,7 @@ ghost use Rattle.decimal.specs.Texts.{digit_count, sign_length, text_of};
 use crate::Decimal;
 
 // A text of at most 18 bytes: its bytes with zeros after them, and its length.
-#[derive(Drop)]
+#[derive(Clone, Copy)]
 pub struct Text {
     pub bytes: [u8; 18],
     pub length: usize,

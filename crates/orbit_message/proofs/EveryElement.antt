@@ -1,4 +1,4 @@
--- `every` over two lists (`every_append`) and over a list with one more element at its end (`every-end`). Facts about `◌&&◌` that
+-- `every` over two lists (`every_append`) and over a list with one more element at its end (`every_end`). Facts about `◌&&◌` that
 -- they and other proofs use.
 use mathlib.Core.Path.{◌≡◌, refl, ap, ◌∙◌}
 use mathlib.Core.Bool.{Bool, true, false, ◌&&◌, false≢true}
@@ -11,13 +11,13 @@ pub and_assoc : (a b c : Bool) → a && (b && c) ≡ a && b && c
 and_assoc true b c = refl
 and_assoc false b c = refl
 
-pub and_true : (a : Bool) → a && true ≡ a
-and_true true = refl
-and_true false = refl
+pub and-true : (a : Bool) → a && true ≡ a
+and-true true = refl
+and-true false = refl
 
-pub and_false : (a : Bool) → a && false ≡ false
-and_false true = refl
-and_false false = refl
+pub and-false : (a : Bool) → a && false ≡ false
+and-false true = refl
+and-false false = refl
 
 pub both : (a b : Bool) → a && b ≡ true → (a ≡ true) × (b ≡ true)
 both true true e = (refl, refl)
@@ -33,4 +33,4 @@ every_append test (a ∷ k) l = ap (λ (b : Bool). test a && b) (every_append te
 
 pub every_end : {A : Type 0} (test : A → Bool) (l : List A) (a : A) → every test (l ++ (a ∷ [])) ≡ every test l && test a
 unfolding every
-every_end test l a = every_append test l (a ∷ []) ∙ ap (λ (b : Bool). every test l && b) (and_true (test a))
+every_end test l a = every_append test l (a ∷ []) ∙ ap (λ (b : Bool). every test l && b) (and-true (test a))

@@ -1,6 +1,6 @@
--- The steps of filling a template. `byte-stored` is the store of `push`, and `next-byte-stored` is one turn of the loop of `append`.
--- `value-is` gives the value k of a match. `value-fill-step` and `byte-fill-step` are the cases of `fill_step`: a 0 of the template, and
--- another byte. `next-byte`, `filled_next` and `filled-at-end` are the steps of the loop of `fill`. Its invariant is that the bytes
+-- The steps of filling a template. `byte_stored` is the store of `push`, and `next_byte_stored` is one turn of the loop of `append`.
+-- `value_is` gives the value k of a match. `value_fill_step` and `byte_fill_step` are the cases of `fill_step`: a 0 of the template, and
+-- another byte. `next_byte`, `filled_next` and `filled_at_end` are the steps of the loop of `fill`. Its invariant is that the bytes
 -- written, followed by the rest of the template filled with the values left, are the whole template filled with all values.
 use mathlib.Core.Path.{◌≡◌, refl, sym, ap, ◌∙◌}
 use mathlib.Core.Bool.{Bool, true, false}

@@ -1,5 +1,5 @@
--- The end of a line. `rest-after-byte`, `rest-at-feed` and `rest-at-end` are the steps of `line_end`: a byte that is not an LF, an LF, and
--- the end of the bytes. `part-is-line` shows that the bytes up to the end of the line are the line.
+-- The end of a line. `rest_after_byte`, `rest_at_feed` and `rest_at_end` are the steps of `line_end`: a byte that is not an LF, an LF, and
+-- the end of the bytes. `part_is_line` shows that the bytes up to the end of the line are the line.
 use mathlib.Core.Path.{◌≡◌, sym, ap, ◌∙◌}
 use mathlib.Core.List.{List}
 use Prim.Native.Nat.{ℕ, ◌+◌, ◌-◌, ◌≤◌, ◌<◌}

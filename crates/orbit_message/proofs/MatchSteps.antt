@@ -1,5 +1,5 @@
--- The steps of a match. `value-step`, `byte_step` and `end_step` are the cases of `advance`: a 0 of the template, another byte of the
--- template, and another byte of the template at the end of s. `progress_start`, `placeholder-left`, `progress-next` and `match-at-end` are
+-- The steps of a match. `value_step`, `byte_step` and `end_step` are the cases of `advance`: a 0 of the template, another byte of the
+-- template, and another byte of the template at the end of s. `progress_start`, `placeholder_left`, `progress_next` and `match_at_end` are
 -- the steps of the loop of `find_values`. Its invariant is that `progress` stays the result of the whole template.
 use mathlib.Core.Path.{◌≡◌, refl, sym, ap, ◌∙◌}
 use mathlib.Core.Bool.{Bool, true, false, cond, ◌&&◌}
@@ -199,9 +199,9 @@ match_at_end t s i d h g e ins f =
       outcome = result ∙ by (eqb d.at (length s)) refl;
     }
   where
-    at-end : (f : Bool) → cond f (found (matched_values s d ++ [])) no_match ≡ cond (f && true) (found (matched_values s d)) no_match
-    at-end true = ap found (append-nil (matched_values s d))
-    at-end false = refl
+    at_end : (f : Bool) → cond f (found (matched_values s d ++ [])) no_match ≡ cond (f && true) (found (matched_values s d)) no_match
+    at_end true = ap found (append-nil (matched_values s d))
+    at_end false = refl
 
     bytes_left : (f : Bool) → cond f no_match no_match ≡ cond (f && false) (found (matched_values s d)) no_match
     bytes_left true = refl
@@ -213,7 +213,7 @@ match_at_end t s i d h g e ins f =
     by true q =
         let same = eqb-true d.at (length s) q in
         let over : length s ≤ d.at = omega arith in
-        rw (drop_of_length-le s over) (at-end d.matches)
+        rw (drop_of_length-le s over) (at_end d.matches)
     by false q =
         let other = eqb-false d.at (length s) q in
         let left : d.at < length s = omega arith in

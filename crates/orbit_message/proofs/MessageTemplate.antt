@@ -1,5 +1,5 @@
--- A message is its template filled with its fourteen values (`message-filled`), and an LF follows each placeholder of the template
--- (`values-end-lines`).
+-- A message is its template filled with its fourteen values (`message_filled`), and an LF follows each placeholder of the template
+-- (`values_end_lines`).
 use mathlib.Core.Path.{◌≡◌, refl, sym, ap, ◌∙◌}
 use mathlib.Core.List.{List, [], ◌∷◌, ◌++◌, append_assoc}
 use Prim.Native.Nat.{ℕ, zero, suc}

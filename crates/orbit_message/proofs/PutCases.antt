@@ -1,5 +1,5 @@
--- The two cases of `put_of`: the buffer is shorter than the message (`too_short`), or the message fits (`message-fits`).
--- `one-more-copied` is one turn of the loop of `put`.
+-- The two cases of `put_of`: the buffer is shorter than the message (`too_short`), or the message fits (`message_fits`).
+-- `one_more_copied` is one turn of the loop of `put`.
 use mathlib.Core.Path.{◌≡◌}
 use mathlib.Core.List.{List, ◌++◌}
 use Prim.Native.Nat.{ℕ, ◌+◌, ◌≤◌, ◌<◌}
@@ -24,9 +24,9 @@ module _ (bytes out : List ℕ) (n : ℕ) (held : n ≤ length bytes) where
   abbrev whole : Result
   whole = record { result = Message n; buffer = take n bytes ++ drop n out }
 
-  pub message-fits : n ≤ length out → put_of (take n bytes) out ≡ whole
+  pub message_fits : n ≤ length out → put_of (take n bytes) out ≡ whole
   unfolding put_of has_room written
-  message-fits h = rw (size, le-leb n (length out) h)
+  message_fits h = rw (size, le-leb n (length out) h)
 
 pub one_more_copied : (bytes out : List ℕ) (i : ℕ) → i < length bytes → i < length out →
     set (take i bytes ++ drop i out) i (get_or bytes i 0) ≡ take (i + 1) bytes ++ drop (i + 1) out

@@ -1,6 +1,6 @@
--- The cases of `read_of`, for `read`: the bytes do not follow the template (`not-template`), a text is not legal (`not-legal`), a
--- number of the position or of the velocity is not a decimal (`not-position`, `not-velocity`), or the bytes are a message
--- (`is-message`).
+-- The cases of `read_of`, for `read`: the bytes do not follow the template (`not_template`), a text is not legal (`not_legal`), a
+-- number of the position or of the velocity is not a decimal (`not_position`, `not_velocity`), or the bytes are a message
+-- (`is_message`).
 use mathlib.Core.Path.{◌≡◌, refl, sym, ap, ◌∙◌}
 use mathlib.Core.Bool.{Bool, true, false, cond, ◌&&◌}
 use mathlib.Core.List.{List, [], ◌∷◌, ◌++◌}
@@ -15,10 +15,9 @@ use Rattle.orbit_message.specs.Matches.{matched_value, values_between, IsMatch}
 use Rattle.orbit_message.specs.States.{vector_shown}
 use Rattle.orbit_message.specs.declared.matching.Match.{Match}
 use Rattle.orbit_message.specs.declared.states.DecimalVector.{DecimalVector}
-use Rattle.orbit_message.specs.declared.states.State.{State}
 use Rattle.orbit_message.specs.declared.states.VectorResult as vector
 use Rattle.orbit_message.specs.declared.reader.ReadResult as result
-use Rattle.orbit_message.proofs.EveryElement.{and_false, every_append}
+use Rattle.orbit_message.proofs.EveryElement.{and-false, every_append}
 use Rattle.orbit_message.proofs.StateCases.{vector_refused, vector_there}
 use Rattle.orbit_message.proofs.MessageTemplate.{fourteen_placeholders}
 
@@ -30,7 +29,7 @@ texts_fail vs e = rw e
 
 numbers_fail : (vs : List (List ℕ)) → every is_decimal_text (drop 8 vs) ≡ false → result.TheVariants.Refused 10 ≡ result_for (found vs)
 unfolding result_for are_values
-numbers_fail vs e = rw (e, and_false (every is_legal (take 8 vs)))
+numbers_fail vs e = rw (e, and-false (every is_legal (take 8 vs)))
 
 all_pass : (vs : List (List ℕ)) → every is_legal (take 8 vs) ≡ true → every is_decimal_text (drop 8 vs) ≡ true →
     result.TheVariants.State (state_in (drop 8 vs)) ≡ result_for (found vs)
@@ -57,9 +56,9 @@ module _ (s : List ℕ) (m : Match) (is : IsMatch template s m) where
   unfolding values values_between
   first_eight = refl
 
-  last-six : drop 8 values ≡ position ++ velocity
+  last_six : drop 8 values ≡ position ++ velocity
   unfolding values values_between
-  last-six = refl
+  last_six = refl
 
   read_is : read_of s ≡ result_for (cond m.matches (found values) no_match)
   unfolding read_of values
@@ -67,44 +66,44 @@ module _ (s : List ℕ) (m : Match) (is : IsMatch template s m) where
       let all = ap (values_between s m.starts m.ends) (is.count_is ∙ fourteen_placeholders) in
       ap result_for (is.outcome ∙ ap (λ (vs : List (List ℕ)). cond m.matches (found vs) no_match) all)
 
-  pub not-template : m.matches ≡ false → result.TheVariants.Refused 10 ≡ read_of s
+  pub not_template : m.matches ≡ false → result.TheVariants.Refused 10 ≡ read_of s
   unfolding result_for
-  not-template e = sym (read_is ∙ ap (λ (b : Bool). result_for (cond b (found values) no_match)) e)
+  not_template e = sym (read_is ∙ ap (λ (b : Bool). result_for (cond b (found values) no_match)) e)
 
-  found-is : m.matches ≡ true → result_for (found values) ≡ read_of s
-  found-is e = sym (read_is ∙ ap (λ (b : Bool). result_for (cond b (found values) no_match)) e)
+  found_is : m.matches ≡ true → result_for (found values) ≡ read_of s
+  found_is e = sym (read_is ∙ ap (λ (b : Bool). result_for (cond b (found values) no_match)) e)
 
-  pub not-legal : m.matches ≡ true → every is_legal texts ≡ false → result.TheVariants.Refused 10 ≡ read_of s
-  not-legal e f = texts_fail values (ap (every is_legal) first_eight ∙ f) ∙ found-is e
+  pub not_legal : m.matches ≡ true → every is_legal texts ≡ false → result.TheVariants.Refused 10 ≡ read_of s
+  not_legal e f = texts_fail values (ap (every is_legal) first_eight ∙ f) ∙ found_is e
 
   numbers : every is_decimal_text (drop 8 values) ≡ every is_decimal_text position && every is_decimal_text velocity
-  numbers = ap (every is_decimal_text) last-six ∙ every_append is_decimal_text position velocity
+  numbers = ap (every is_decimal_text) last_six ∙ every_append is_decimal_text position velocity
 
-  pub not-position : m.matches ≡ true → (p : vector.VectorResult) → p ≡ vector_shown position → p ≡ vector.TheVariants.Refused →
+  pub not_position : m.matches ≡ true → (p : vector.VectorResult) → p ≡ vector_shown position → p ≡ vector.TheVariants.Refused →
       result.TheVariants.Refused 10 ≡ read_of s
   unfolding vector_shown
-  not-position e p f g =
+  not_position e p f g =
       let none = vector_refused (every is_decimal_text position) (vector_in position) p f g in
-      numbers_fail values (numbers ∙ rw none) ∙ found-is e
+      numbers_fail values (numbers ∙ rw none) ∙ found_is e
 
-  pub not-velocity : m.matches ≡ true → (q : vector.VectorResult) → q ≡ vector_shown velocity → q ≡ vector.TheVariants.Refused →
+  pub not_velocity : m.matches ≡ true → (q : vector.VectorResult) → q ≡ vector_shown velocity → q ≡ vector.TheVariants.Refused →
       result.TheVariants.Refused 10 ≡ read_of s
   unfolding vector_shown
-  not-velocity e q f g =
+  not_velocity e q f g =
       let none = vector_refused (every is_decimal_text velocity) (vector_in velocity) q f g in
-      numbers_fail values (numbers ∙ rw (none, and_false (every is_decimal_text position))) ∙ found-is e
+      numbers_fail values (numbers ∙ rw (none, and-false (every is_decimal_text position))) ∙ found_is e
 
   shown : (x y : DecimalVector) → x ≡ vector_in position → y ≡ vector_in velocity →
       result.TheVariants.State (record { position = x; velocity = y }) ≡ result.TheVariants.State (state_in (drop 8 values))
   unfolding state_in vector_in values values_between
   shown x y e f = rw (e, f)
 
-  pub is-message : m.matches ≡ true → every is_legal texts ≡ true → (p q : vector.VectorResult) (x y : DecimalVector) →
+  pub is_message : m.matches ≡ true → every is_legal texts ≡ true → (p q : vector.VectorResult) (x y : DecimalVector) →
       p ≡ vector_shown position → p ≡ vector.TheVariants.Of x → q ≡ vector_shown velocity → q ≡ vector.TheVariants.Of y →
       result.TheVariants.State (record { position = x; velocity = y }) ≡ read_of s
   unfolding vector_shown
-  is-message e f p q x y g h i j =
+  is_message e f p q x y g h i j =
       let first = vector_there (every is_decimal_text position) (vector_in position) x p g h in
       let second = vector_there (every is_decimal_text velocity) (vector_in velocity) y q i j in
       let legal = ap (every is_legal) first_eight ∙ f in
-      shown x y first.1 second.1 ∙ all_pass values legal (numbers ∙ rw (first.0, second.0)) ∙ found-is e
+      shown x y first.1 second.1 ∙ all_pass values legal (numbers ∙ rw (first.0, second.0)) ∙ found_is e

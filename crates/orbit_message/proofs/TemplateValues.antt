@@ -1,6 +1,6 @@
--- The values that `values_in` finds fill the template (`values-sound`). If a template is filled with values, then `values_in` finds these
--- values again (`values-filled`, `values-complete`). So at most one list of values fills a template to given bytes (`one-filling`), and
--- none does if `values_in` finds none (`no-filling`). `values-sound` and `values-filled` are proved by induction on the template.
+-- The values that `values_in` finds fill the template (`values_sound`). If a template is filled with values, then `values_in` finds these
+-- values again (`values_filled`, `values_complete`). So at most one list of values fills a template to given bytes (`one_filling`), and
+-- none does if `values_in` finds none (`no_filling`). `values_sound` and `values_filled` are proved by induction on the template.
 use mathlib.Core.Path.{◌≡◌, refl, sym, ap, ◌∙◌, subst}
 use mathlib.Core.Bool.{Bool, true, false, cond}
 use mathlib.Core.List.{List, [], ◌∷◌, ◌++◌}

@@ -1,6 +1,6 @@
--- The tests of texts, for the functions of src/texts.rt: one more byte (`one-more-byte`), the length of a text (`out-of-bounds`,
--- `in_bounds`), all tests of one text (`legal-if`), one more value (`one-more-text`), and the eight lines (`not-eight-lines`,
--- `eight-lines`).
+-- The tests of texts, for the functions of src/texts.rt: one more byte (`one_more_byte`), the length of a text (`out_of_bounds`,
+-- `in_bounds`), all tests of one text (`legal_if`), one more value (`one_more_text`), and the eight lines (`not_eight_lines`,
+-- `eight_lines`).
 use mathlib.Core.Path.{◌≡◌, refl, sym, ap, ◌∙◌}
 use mathlib.Core.Bool.{Bool, true, false, cond, not, ◌&&◌, ◌||◌, true≢false}
 use mathlib.Core.List.{List, [], ◌∷◌, ◌++◌}
@@ -70,22 +70,22 @@ unfolding placeholders_in lines_template
 eight_placeholders = refl
 
 module _ (s : List ℕ) (m : Match) (is : IsMatch (lines_template 8) s m) where
-  pub texts-found : texts_in s ≡ cond m.matches (matched_values s m) []
+  pub texts_found : texts_in s ≡ cond m.matches (matched_values s m) []
   unfolding texts_in
-  texts-found = ap found_in is.outcome ∙ by m.matches
+  texts_found = ap found_in is.outcome ∙ by m.matches
     where
       by : (b : Bool) → found_in (cond b (found (matched_values s m)) no_match) ≡ cond b (matched_values s m) []
       by true = refl
       by false = refl
 
-  pub not-eight-lines : m.matches ≡ false → false ≡ are_texts (texts_in s)
+  pub not_eight_lines : m.matches ≡ false → false ≡ are_texts (texts_in s)
   unfolding are_texts
-  not-eight-lines f = rw (texts-found, f)
+  not_eight_lines f = rw (texts_found, f)
 
   -- The texts are the eight values of the match.
-  pub texts-are : m.matches ≡ true → texts_in s ≡ values_between s m.starts m.ends 8
-  texts-are f = texts-found ∙ rw (f, is.count_is, eight_placeholders)
+  pub texts_are : m.matches ≡ true → texts_in s ≡ values_between s m.starts m.ends 8
+  texts_are f = texts_found ∙ rw (f, is.count_is, eight_placeholders)
 
-  pub eight-lines : m.matches ≡ true → every is_legal (values_between s m.starts m.ends 8) ≡ are_texts (texts_in s)
+  pub eight_lines : m.matches ≡ true → every is_legal (values_between s m.starts m.ends 8) ≡ are_texts (texts_in s)
   unfolding are_texts values_between
-  eight-lines f = rw (texts-are f)
+  eight_lines f = rw (texts_are f)

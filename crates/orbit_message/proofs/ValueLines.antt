@@ -1,5 +1,5 @@
--- Values as lines, for the functions of src/messages.rt: each value is on one line (`all-one-line`) and short (`all_short`), the
--- fourteen lines are what was appended (`lined`), and the values found in them are the values (`lines-found`).
+-- Values as lines, for the functions of src/messages.rt: each value is on one line (`all_one_line`) and short (`all_short`), the
+-- fourteen lines are what was appended (`lined`), and the values found in them are the values (`lines_found`).
 use mathlib.Core.Path.{◌≡◌, refl, sym, ap, ◌∙◌}
 use mathlib.Core.Bool.{Bool, true, false, cond, not, ◌&&◌}
 use mathlib.Core.List.{List, [], ◌∷◌, ◌++◌, map, append_assoc}
@@ -163,7 +163,8 @@ values_of_lines n s vs e p f =
     (record { as_many = e ∙ sym (placeholders_of_lines n); one_line = p; same = f ∙ sym (lines_template_filled n vs e) })
 
 -- What a match with n lines found.
-pub lines_found : (n : ℕ) (s : List ℕ) (m : Match) → IsMatch (lines_template n) s m → (vs : List (List ℕ)) → length vs ≡ n → OneLineEach vs →
+pub lines_found : (n : ℕ) (s : List ℕ) (m : Match) → IsMatch (lines_template n) s m → (vs : List (List ℕ)) → length vs ≡ n →
+    OneLineEach vs →
     s ≡ lines_of vs → matched_values s m ≡ vs
 lines_found n s m is vs e p f = by m.matches (sym is.outcome ∙ values_of_lines n s vs e p f)
   where
@@ -212,22 +213,22 @@ module _ (ts : List (List ℕ)) (ns : List Decimal) (legal : are_texts ts ≡ tr
   unfolding are_texts
   parts = let p = both (eqb (length ts) 8) (every is_legal ts) legal in (eqb-true (length ts) 8 p.0, p.1)
 
-  pub fourteen-values : length (ts ++ map text_of ns) ≡ 14
-  fourteen-values =
+  pub fourteen_values : length (ts ++ map text_of ns) ≡ 14
+  fourteen_values =
       let eight = parts.0 in
       length-append ts (map text_of ns) ∙ ap (λ (x : ℕ). length ts + x) (length-map ns text_of) ∙ omega arith
 
   pub lined : (s all : List ℕ) → s ≡ lines_of ts → all ≡ s ++ lines_of (map text_of ns) → Lined all (ts ++ map text_of ns)
   lined s all h e =
       record {
-        many = fourteen-values;
+        many = fourteen_values;
         one_line = all_one_line ts ns parts.1;
         short = all_short ts ns parts.1;
         same = e ∙ ap (λ (l : List ℕ). l ++ lines_of (map text_of ns)) h ∙ lines_append ts (map text_of ns);
       }
 
-  pub texts-room : length (lines_of ts) ≤ 488
-  texts-room =
+  pub texts_room : length (lines_of ts) ≤ 488
+  texts_room =
       let eight = parts.0 in
       let sum = lines_length ts parts.1 in
       omega arith

@@ -1,5 +1,5 @@
 -- The cases of `write_of`, for `write`: each refusal when its condition is the first that holds (`b1`, `b5`, `b6`, `b7`), and the
--- message otherwise (`message-put`). `entry-inside` shows that every entry of an answer lies in its bytes.
+-- message otherwise (`message_put`). `entry_inside` shows that every entry of an answer lies in its bytes.
 use mathlib.Core.Path.{◌≡◌, refl, sym, ap, ◌∙◌}
 use mathlib.Core.Bool.{Bool, true, false, cond, not, ◌&&◌, ◌||◌, true≢false}
 use mathlib.Core.List.{List, ◌++◌, map}
@@ -111,7 +111,7 @@ module _ (answer : List ℕ) (entry : ℕ) (r1 : Vector) (texts out : List ℕ) 
         unfolding write_of
         b7 e = rw (good, legal, there, e)
 
-        pub message-put : every is_in_range numbers ≡ true →
+        pub message_put : every is_in_range numbers ≡ true →
             put_of (message_of (texts_in texts) (map decimal_of numbers)) out ≡ write_of answer entry r1 texts out
         unfolding write_of
-        message-put e = rw (good, legal, there, e)
+        message_put e = rw (good, legal, there, e)

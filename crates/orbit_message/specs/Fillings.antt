@@ -1,5 +1,5 @@
 -- What the functions of src/filling.rt require and compute. Definitions only; no public contract cites them.
-use Rattle.std.specs.Prelude.{ℕ, ◌+◌, ◌-◌, ◌*◌, ◌≤◌, ◌<◌, ◌≡◌, List, [], ◌∷◌, ◌++◌, length, get_or, take, drop}
+use Rattle.std.specs.Prelude.{ℕ, ◌+◌, ◌-◌, ◌*◌, ◌≤◌, ◌<◌, ◌≡◌, List, [], ◌∷◌, ◌++◌, get_or, take, drop}
 use Rattle.orbit_message.specs.Templates.{filled, placeholders_in}
 use Rattle.orbit_message.specs.Matches.{Inside, matched_values}
 use Rattle.orbit_message.specs.declared.matching.Match.{Match}

@@ -1,5 +1,5 @@
 -- What the writer of a message returns and writes (02, A10). Definitions only.
-use Rattle.std.specs.Prelude.{ℕ, ◌-◌, Bool, cond, not, ◌||◌, List, [], ◌∷◌, ◌++◌, map, eqb, Float, length, drop}
+use Rattle.std.specs.Prelude.{ℕ, ◌-◌, cond, not, ◌||◌, List, [], ◌∷◌, ◌++◌, map, eqb, Float, length, drop}
 use Rattle.float64.specs.declared.Vector.{Vector}
 use Rattle.decimal.specs.Decimals.{is_in_range, decimal_of}
 use Rattle.little_endian.specs.Bytes.{has_room, written}

@@ -8,7 +8,7 @@ use crate::matching::Match;
 
 // The first `length` of the bytes are written so far. `count` is how often `append` was called; in `fill` that is the number of values
 // written. 1100 bytes are enough: the template of a message has 188 bytes, and each of its fourteen values at most 60.
-#[derive(Drop)]
+#[derive(Clone, Copy)]
 pub(crate) struct Filling {
     pub bytes: [u8; 1100],
     pub length: usize,

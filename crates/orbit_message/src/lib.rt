@@ -1,5 +1,7 @@
 // The orbit parameter message of CCSDS 502.0-B in the form of 02, A10: `write` makes one from an entry of an answer, and `read` returns the
 // numbers of one. In this crate a message is an orbit message.
+#![tactic(auto)]
+
 mod filling;
 mod matching;
 mod messages;

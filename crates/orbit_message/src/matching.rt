@@ -6,7 +6,7 @@ ghost use Rattle.orbit_message.specs.Matches.{Advance, IsMatch};
 
 // How far bytes follow a template: whether they do, the offset reached, and the values found, each
 // given by the offsets at which it starts and ends.
-#[derive(Drop)]
+#[derive(Clone, Copy)]
 pub(crate) struct Match {
     pub matches: bool,
     pub at: usize,

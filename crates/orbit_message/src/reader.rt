@@ -8,7 +8,7 @@ use crate::states::{State, VectorResult, vector_at};
 use crate::texts::are_legal;
 
 // The result of reading a message: its state, or a refusal, whose number is always 10 (B10).
-#[derive(Drop)]
+#[derive(Clone, Copy)]
 pub enum ReadResult {
     State(State),
     Refused(u8),

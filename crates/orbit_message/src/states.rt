@@ -9,7 +9,7 @@ use decimal::{Decimal, DecimalResult};
 use float64::Vector;
 
 // A vector whose components are decimals.
-#[derive(Drop)]
+#[derive(Clone, Copy)]
 pub struct DecimalVector {
     pub x: Decimal,
     pub y: Decimal,
@@ -17,21 +17,21 @@ pub struct DecimalVector {
 }
 
 // The position and the velocity of a message.
-#[derive(Drop)]
+#[derive(Clone, Copy)]
 pub struct State {
     pub position: DecimalVector,
     pub velocity: DecimalVector,
 }
 
 // A vector, or a refusal because one of its components is refused.
-#[derive(Drop)]
+#[derive(Clone, Copy)]
 pub(crate) enum VectorResult {
     Of(DecimalVector),
     Refused,
 }
 
 // A state, or a refusal because one of its numbers is refused.
-#[derive(Drop)]
+#[derive(Clone, Copy)]
 pub(crate) enum StateResult {
     Of(State),
     Refused,

@@ -13,7 +13,7 @@ use records::{REFUSAL_KIND, answer_size, kind_of, number_of, read_entry};
 
 // The result of writing a message: its length, or the number of the refusal, 1, 5, 6, 7 or 8 for B1, B5, B6, B7 or B8. A refusal
 // leaves the buffer unchanged.
-#[derive(Drop)]
+#[derive(Clone, Copy)]
 pub enum WriteResult {
     Message(usize),
     Refused(u8),

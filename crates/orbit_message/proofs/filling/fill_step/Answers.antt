@@ -1,0 +1,34 @@
+-- `fill_step` meets its contract. The two returns are the cases of `proofs/FillSteps.antt`: a 0 of the template, and another byte.
+use native.Mathlib.Omega.{arith}
+use Prim.Native.Nat.{◌<◌}
+use Rattle.orbit_message.proofs.FillSteps.{value_fill_step, byte_fill_step, zero_is_placeholder}
+use Rattle.orbit_message.proofs.filling.fill_step.Goals as goal
+
+pub bounds-starts-k : goal.bounds-starts-k
+bounds-starts-k c = omega (arith, c.requires.1, zero_is_placeholder c.args.byte c.if-byte-eq0.true, c.requires.0.few)
+
+pub bounds-ends-k : goal.bounds-ends-k
+bounds-ends-k c = omega (arith, c.requires.1, zero_is_placeholder c.args.byte c.if-byte-eq0.true, c.requires.0.few)
+
+pub append-requires : goal.append-requires
+append-requires c =
+    let k = c.args.old.count in
+    let one = zero_is_placeholder c.args.byte c.if-byte-eq0.true in
+    let left : k < c.args.values.count = omega (arith, c.requires.1, one) in
+    let fits = c.requires.0 in
+    let value = fits.inside k left in
+    (value.0, value.1, omega (arith, fits.short k left, c.requires.2, one), omega (arith, fits.few, left))
+
+pub returns-then-byte-eq0 : goal.returns-then-byte-eq0
+returns-then-byte-eq0 c =
+    let a = c.args in
+    let one = zero_is_placeholder a.byte c.if-byte-eq0.true in
+    let left : a.old.count < a.values.count = omega (arith, c.requires.1, one) in
+    let e = c.append.ensures in
+    rw c.if-byte-eq0.true (value_fill_step a.s.now a.values a.old c.append.result c.requires.0 left e.0 e.1 e.2)
+
+pub returns-else-byte-eq0 : goal.returns-else-byte-eq0
+returns-else-byte-eq0 c =
+    let a = c.args in
+    let e = c.push.ensures in
+    byte_fill_step a.s.now a.values a.byte a.old c.push.result c.if-byte-eq0.false e.0 e.1 e.2

@@ -1,0 +1,80 @@
+-- `read` meets its contract: each return is a case of proofs/ReadCases.antt.
+use mathlib.Core.Path.{sym, ◌∙◌}
+use native.Mathlib.Omega.{arith}
+use borrow.Author.Rules.{rules}
+use borrow.Author.Tests.{not-true, not-false}
+use lib.Dec.{lit≤}
+use Rattle.orbit_message.specs.Ascii.{ascii}
+use Rattle.orbit_message.specs.Templates.{placeholders_in}
+use Rattle.orbit_message.specs.Messages.{keys, version, line, lines, template}
+use Rattle.orbit_message.specs.Matches.{IsMatch}
+use Rattle.orbit_message.proofs.MessageTemplate.{fourteen_placeholders}
+use Rattle.orbit_message.proofs.ReadCases.{not_template, not_legal, not_position, not_velocity, is_message}
+use Rattle.orbit_message.proofs.reader.read.Goals as goal
+use Rattle.orbit_message.proofs.reader.read.Goals.{After-find_values-found}
+
+pub find_values-found-requires : goal.find_values-found-requires
+unfolding placeholders_in
+find_values-found-requires c = lit≤ tt
+
+-- The code's template is the one of the definitions.
+is_match : (c : After-find_values-found) → IsMatch template c.args.s.now c.find_values-found.result
+unfolding template keys lines line version ascii
+is_match c = c.find_values-found.ensures
+
+pub returns-then-not-found : goal.returns-then-not-found
+returns-then-not-found c =
+    let is = is_match (goal.at.returns-then-not-found c).After-find_values-found in
+    not_template c.args.s.now c.find_values-found.result is (not-true c.find_values-found.result.matches c.if-not-found.true)
+
+pub are_legal-requires : goal.are_legal-requires
+are_legal-requires c =
+    let is = is_match (goal.at.are_legal-requires c).After-find_values-found in
+    (is.inside, omega (arith, is.count_is ∙ fourteen_placeholders))
+
+pub returns-then-not-are_legal : goal.returns-then-not-are_legal
+returns-then-not-are_legal c =
+    let is = is_match (goal.at.returns-then-not-are_legal c).After-find_values-found in
+    let found = c.find_values-found.result in
+    let follows = not-false found.matches c.if-not-found.false in
+    let illegal = sym c.are_legal.ensures ∙ c.if-not-are_legal.true in
+    not_legal c.args.s.now found is follows illegal
+
+pub vector_at-requires : goal.vector_at-requires
+vector_at-requires c =
+    let is = is_match (goal.at.vector_at-requires c).After-find_values-found in
+    (is.inside, is.count_is ∙ fourteen_placeholders, search rules)
+
+pub returns-in_default : goal.returns-in_default
+returns-in_default c =
+    let is = is_match (goal.at.returns-in_default c).After-find_values-found in
+    let found = c.find_values-found.result in
+    let follows = not-false found.matches c.if-not-found.false in
+    let p = c.vector_at in
+    not_position c.args.s.now found is follows p.result p.ensures c.in_default.is
+
+pub vector_at-requires-2 : goal.vector_at-requires-2
+vector_at-requires-2 c =
+    let is = is_match (goal.at.vector_at-requires-2 c).After-find_values-found in
+    (is.inside, is.count_is ∙ fourteen_placeholders, search rules)
+
+pub returns-in_default-vector_at : goal.returns-in_default-vector_at
+returns-in_default-vector_at c =
+    let is = is_match (goal.at.returns-in_default-vector_at c).After-find_values-found in
+    let found = c.find_values-found.result in
+    let follows = not-false found.matches c.if-not-found.false in
+    let q = c.vector_at-2 in
+    not_velocity c.args.s.now found is follows q.result q.ensures c.in_default-vector_at.is
+
+pub returns : goal.returns
+returns c =
+    let is = is_match (goal.at.returns c).After-find_values-found in
+    let found = c.find_values-found.result in
+    let follows = not-false found.matches c.if-not-found.false in
+    let p = c.vector_at in
+    let q = c.vector_at-2 in
+    let x = c.in-Of in
+    let y = c.in-Of-vector_at in
+    let all_legal = sym c.are_legal.ensures ∙ c.if-not-are_legal.false in
+    is_message c.args.s.now found is follows all_legal
+    p.result q.result x.position y.velocity p.ensures x.is q.ensures y.is
