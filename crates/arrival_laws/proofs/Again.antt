@@ -1,6 +1,6 @@
 -- A message that came before changes nothing when it comes again, whatever messages came in between and however many
--- jobs they had (`again-later`). The proof uses the invariant `Keeps`. If something is held for the message's job,
--- joining the message to it changes nothing (`holds-again`). If nothing is held for its job, the board is full, so
+-- jobs they had (`again_later`). The proof uses the invariant `Keeps`. If something is held for the message's job,
+-- joining the message to it changes nothing (`holds_again`). If nothing is held for its job, the board is full, so
 -- the message is refused.
 use mathlib.Core.Path.{◌≡◌, refl, sym, ap, ◌∙◌}
 use mathlib.Core.List.{List}
@@ -13,26 +13,26 @@ use Rattle.board.specs.Board.{held_on, empty_board, Result, post_of}
 use Rattle.arrival_laws.specs.Messages.{post_all, ◌∈◌, AllBytes, CameFor, HeldFor, SomeOf}
 use Rattle.arrival_laws.proofs.Joining.{Joining, newer, older, again, clash, joining}
 use Rattle.arrival_laws.proofs.Placing.{placing, grown}
-use Rattle.arrival_laws.proofs.Posting.{Posting, no_board, malformed, unnamed, full, taken, posting, taken-same}
-use Rattle.arrival_laws.proofs.Keeping.{conflict-at, none-higher, Keeps}
-use Rattle.arrival_laws.proofs.Standing.{keeps-always}
+use Rattle.arrival_laws.proofs.Posting.{Posting, no_board, malformed, unnamed, full, taken, posting, taken_same}
+use Rattle.arrival_laws.proofs.Keeping.{conflict_at, none_higher, Keeps}
+use Rattle.arrival_laws.proofs.Standing.{keeps_always}
 
 module _ (ms : List (List ℕ)) (m : List ℕ) (bytes : AllBytes ms) where
-  holds-again : {held c : List ℕ} → Joining held m c → HeldFor ms (job_of m) held → CameFor ms (job_of m) m → c ≡ held
-  holds-again (newer l) h came = absurd (omega (arith, none-higher bytes h m came))
-  holds-again (older l) h came = refl
-  holds-again (again s) h came = refl
-  holds-again (clash s d) (inl o) came = ⊎_elim (λ e. absurd (d (sym e))) (λ l. absurd (omega arith)) (o.highest m came)
-  holds-again (clash s d) (inr o) came = ap (conflict_bytes (job_of m)) (sym s ∙ conflict-at bytes o) ∙ sym o.conflict
+  holds_again : {held c : List ℕ} → Joining held m c → HeldFor ms (job_of m) held → CameFor ms (job_of m) m → c ≡ held
+  holds_again (newer l) h came = absurd (omega (arith, none_higher bytes h m came))
+  holds_again (older l) h came = refl
+  holds_again (again s) h came = refl
+  holds_again (clash s d) (inl o) came = ⊎_elim (λ e. absurd (d (sym e))) (λ l. absurd (omega arith)) (o.highest m came)
+  holds_again (clash s d) (inr o) came = ap (conflict_bytes (job_of m)) (sym s ∙ conflict_at bytes o) ∙ sym o.conflict
 
-  pub again-later : m ∈ ms → (post_of (post_all empty_board ms) m).board ≡ post_all empty_board ms
-  again-later i = by (posting b m) refl
+  pub again_later : m ∈ ms → (post_of (post_all empty_board ms) m).board ≡ post_all empty_board ms
+  again_later i = by (posting b m) refl
     where
       b : List ℕ
       b = post_all empty_board ms
 
       k : Keeps ms (held_on b)
-      k = keeps-always ms bytes
+      k = keeps_always ms bytes
 
       by : {o : Result} → Posting b m o → post_of b m ≡ o → o.board ≡ b
       by (no_board f) e = refl
@@ -45,5 +45,5 @@ module _ (ms : List (List ℕ)) (m : List ℕ) (bytes : AllBytes ms) where
           let held = s.0 in
           let for = s.1.1 in
           let same =
-          holds-again (joining held m) (rw for at (k.holds held s.1.0)) (record { among = i; postable = postable; for = refl }) in
-          ap (λ (o : Result). o.board) (sym e ∙ taken-same b m held f postable s.1.0 for same)
+          holds_again (joining held m) (rw for at (k.holds held s.1.0)) (record { among = i; postable = postable; for = refl }) in
+          ap (λ (o : Result). o.board) (sym e ∙ taken_same b m held f postable s.1.0 for same)

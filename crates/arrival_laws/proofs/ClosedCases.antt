@@ -1,12 +1,12 @@
--- Posts with concrete bytes. First 01's worked refusal is posted on the empty board (`worked-taken`), then another record of the same job
--- and revision (`another-clashes`), or a refusal 12 of another job, which is longer (`void-taken`). These three theorems give the result,
--- every byte of the board after the call, and what it holds. `clash-is` and `void-is` say that the definitions give the bytes of the
--- conflict and of the refusal 12. One refusal 12 of the shorter form (`short-12-refused`) and one refusal 11 of the longer form
--- (`long-11-refused`) are refused with B1 by every board, which keeps its bytes. The bytes that hold this short refusal 12 alone are not a
--- board: every post to them is refused with B0 (`short-12-held`). For refusals with any other bytes see `RefusalSizes` of `record_laws`. A
--- board is too long to compute with, so `next-board` computes with what it holds.
+-- Posts with concrete bytes. First 01's worked refusal is posted on the empty board (`worked_taken`), then another record of the same job
+-- and revision (`another_clashes`), or a refusal 12 of another job, which is longer (`void_taken`). These three theorems give the result,
+-- every byte of the board after the call, and what it holds. `clash_is` and `void_is` say that the definitions give the bytes of the
+-- conflict and of the refusal 12. One refusal 12 of the shorter form (`short_12_refused`) and one refusal 11 of the longer form
+-- (`long_11_refused`) are refused with B1 by every board, which keeps its bytes. The bytes that hold this short refusal 12 alone are not a
+-- board: every post to them is refused with B0 (`short_12_held`). For refusals with any other bytes see `RefusalSizes` of `record_laws`. A
+-- board is too long to compute with, so `next_board` computes with what it holds.
 use mathlib.Core.Path.{◌≡◌, refl, ◌∙◌}
-use mathlib.Core.Bool.{Bool, true, false, ◌&&◌, and_false}
+use mathlib.Core.Bool.{Bool, true, false, ◌&&◌, and-false}
 use mathlib.Core.List.{List, [], ◌∷◌, ◌++◌, append_assoc}
 use Prim.Native.Nat.{ℕ, zero, suc, ◌+◌, ◌-◌, ◌*◌, ◌≤◌}
 use native.Mathlib.Omega.{arith}
@@ -26,7 +26,7 @@ use Rattle.board.specs.Board.{SLOTS, board_size, in_order, is_board, held_on, bo
 use Rattle.board.specs.Board.{board_refusal, placed_on, post_of}
 use Rattle.arrival_laws.specs.Messages.{Postable}
 use Rattle.board.proofs.Boards.{zeros, slots_in, slots_next, slots_none}
-use Rattle.arrival_laws.proofs.Posting.{judged, taken-board, starts_board}
+use Rattle.arrival_laws.proofs.Posting.{judged, taken_board, starts_board}
 
 -- ---- the bytes of a board with one filled slot, and with two
 
@@ -74,7 +74,7 @@ next_board : (b new : List ℕ) (held : List (List ℕ)) → Holding b held → 
 unfolding placed_on
 next_board b new held on bytes postable room =
     let room : length (placed (held_on b) new) ≤ SLOTS = rw on.these room in
-    let t = taken-board b new (are_bytes_lem new bytes) on.board postable room in
+    let t = taken_board b new (are_bytes_lem new bytes) on.board postable room in
     rw (← on.these)
     (record {
       given = judged b new on.board postable ∙ rw (le-ltb SLOTS (length (placed (held_on b) new)) room);
@@ -109,7 +109,8 @@ second =
 pub worked_taken : (post_of empty_board worked ≡ record { posted = Taken; board = alone worked }) × (held_on (alone worked) ≡ worked ∷ [])
 worked_taken = rw (← board_alone worked (omega arith)) (first.given, first.holding.these)
 
-pub another_clashes : (post_of (alone worked) another ≡ record { posted = Taken; board = alone clash }) × (held_on (alone clash) ≡ clash ∷ [])
+pub another_clashes : (post_of (alone worked) another ≡ record { posted = Taken; board = alone clash }) × (held_on (alone clash)
+    ≡ clash ∷ [])
 another_clashes = rw (← board_alone worked (omega arith), ← board_alone clash (omega arith)) (second.given, second.holding.these)
 
 pub clash_is : conflict_bytes 7 2 ≡ clash
@@ -118,8 +119,8 @@ clash_is = refl
 
 -- ---- both sizes of a refusal
 
--- Refusals of job 8, revision 2. Number 12 with station j = -4,095 and reason 1 (`void`), the same without both (`short-12`), and
--- number 11 with both (`long-11`).
+-- Refusals of job 8, revision 2. Number 12 with station j = -4,095 and reason 1 (`void`), the same without both (`short_12`), and
+-- number 11 with both (`long_11`).
 abbrev pub void : List ℕ
 void = 0x12 ∷ 0 ∷ 0 ∷ 0 ∷ 3 ∷ 0 ∷ 8 ∷ 0 ∷ 0 ∷ 0 ∷ 2 ∷ 0 ∷ 0 ∷ 0 ∷ 0x0C ∷ 0 ∷ 0x01 ∷ 0xF0 ∷ 0xFF ∷ 0xFF ∷ 1 ∷ 0 ∷ []
 
@@ -163,4 +164,4 @@ not_filled = refl
 
 pub short_12_held : (new : List ℕ) → post_of (alone short_12) new ≡ board_refusal 0 (alone short_12)
 unfolding post_of is_board
-short_12_held new = rw (not_filled, and_false)
+short_12_held new = rw (not_filled, and-false)

@@ -1,7 +1,7 @@
 -- The four cases of `joined`, for what is held and a new record (`joining`). The later lemmas split on these cases. If
--- both are of one job, the result is of that job (`joined-job`). If a slot may hold both, a slot may hold the result
--- (`joined-held`). Joining the record again changes nothing (`joined-again`), and joining a record of a lower revision
--- or the bytes that are already held changes nothing (`joined-kept`).
+-- both are of one job, the result is of that job (`joined_job`). If a slot may hold both, a slot may hold the result
+-- (`joined_held`). Joining the record again changes nothing (`joined_again`), and joining a record of a lower revision
+-- or the bytes that are already held changes nothing (`joined_kept`).
 use mathlib.Core.Path.{◌≡◌, refl, ap, ◌∙◌}
 use mathlib.Core.Bool.{Bool, true, false, cond}
 use mathlib.Core.List.{List}
@@ -10,7 +10,7 @@ use Prim.Native.Nat.{ℕ, ◌^◌, ◌<◌}
 use native.Mathlib.Omega.{arith}
 use borrow.Author.Tests.{ltb-true, ltb-false, le-ltb}
 use lib.Dec.{ltb}
-use Rattle.records.proofs.SingleFields.{conflict-job, conflict-revision}
+use Rattle.records.proofs.SingleFields.{conflict_job, conflict_revision}
 use Rattle.records.specs.Records.{conflict_bytes}
 use Rattle.records.specs.Layout.{JOB, REVISION, job_of, revision_of}
 use Rattle.little_endian.specs.Bytes.{AreBytes}
@@ -18,7 +18,7 @@ use Rattle.slots.specs.Slots.{is_held, same_bytes}
 use Rattle.board.specs.Board.{joined}
 use Rattle.slots.proofs.Zeros.{same_is, same_self, differ_is}
 use Rattle.little_endian.proofs.Numbers.{number_lt}
-use Rattle.slots.proofs.Conflicts.{conflict-held}
+use Rattle.slots.proofs.Conflicts.{conflict_held}
 
 -- The job and the revision of a record are numbers of four bytes, so they are below 2^32.
 pub small_job : (m : List ℕ) → AreBytes m → job_of m < 2 ^ 32
@@ -35,7 +35,8 @@ pub data Joining (held new : List ℕ) : List ℕ → Type 0 where
 
 pub joining : (held new : List ℕ) → Joining held new (joined held new)
 unfolding joined
-joining held new = by (ltb (revision_of held) (revision_of new)) refl (ltb (revision_of new) (revision_of held)) refl (same_bytes held new) refl
+joining held new =
+    by (ltb (revision_of held) (revision_of new)) refl (ltb (revision_of new) (revision_of held)) refl (same_bytes held new) refl
   where
     by : (low : Bool) → ltb (revision_of held) (revision_of new) ≡ low → (high : Bool) → ltb (revision_of new) (revision_of held) ≡ high
         → (same : Bool) → same_bytes held new ≡ same →
@@ -49,13 +50,13 @@ pub joined_job : {held new c : List ℕ} → Joining held new c → AreBytes new
 joined_job (newer l) bytes e = refl
 joined_job (older l) bytes e = e
 joined_job (again s) bytes e = e
-joined_job {new} (clash s d) bytes e = conflict-job (job_of new) (revision_of new) (small_job new bytes)
+joined_job {new} (clash s d) bytes e = conflict_job (job_of new) (revision_of new) (small_job new bytes)
 
 pub joined_held : {held new c : List ℕ} → Joining held new c → is_held held ≡ true → is_held new ≡ true → is_held c ≡ true
 joined_held (newer l) f g = g
 joined_held (older l) f g = f
 joined_held (again s) f g = f
-joined_held {new} (clash s d) f g = conflict-held (job_of new) (revision_of new)
+joined_held {new} (clash s d) f g = conflict_held (job_of new) (revision_of new)
 
 -- A record of a lower revision, or with the bytes that are already held, changes nothing.
 pub joined_kept : {held new c : List ℕ} → Joining held new c → (revision_of new < revision_of held) ⊎ (held ≡ new) → c ≡ held
@@ -89,4 +90,4 @@ joined_again held new bytes = by (joining held new) refl
     by (again s) e = e
     by (clash s d) e =
         let c = conflict_bytes (job_of new) (revision_of new) in
-        level c new (conflict-revision (job_of new) (revision_of new) (small_revision new bytes)) ∙ either (same_bytes c new) c
+        level c new (conflict_revision (job_of new) (revision_of new) (small_revision new bytes)) ∙ either (same_bytes c new) c

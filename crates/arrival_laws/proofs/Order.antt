@@ -1,6 +1,6 @@
 -- Every order of the same messages over at most 64 different jobs, with any repeats, ends in the same board
--- (`any_order`). `BoardAfter` determines the board (`one-board`), because the messages for a job determine what is held
--- for it (`one-held`), and two lists of records with rising job numbers and the same elements are equal (`one_list`).
+-- (`any_order`). `BoardAfter` determines the board (`one_board`), because the messages for a job determine what is held
+-- for it (`one_held`), and two lists of records with rising job numbers and the same elements are equal (`one_list`).
 use mathlib.Core.Path.{◌≡◌, refl, sym, ap, ◌∙◌}
 use mathlib.Core.List.Memᴰ.{head as here}
 use mathlib.Core.List.Memᴰ.{not-nil as in-none}
@@ -17,19 +17,19 @@ use Rattle.board.specs.Board.{held_on, board_of, empty_board, HeldRising, none, 
 use Rattle.arrival_laws.specs.Messages.{post_all, ◌∈◌, SameMessages, AllBytes, OverFewJobs, HeldFor, BoardAfter}
 use Rattle.board.proofs.Boards.{board_held}
 use Rattle.arrival_laws.proofs.Placing.{above_all}
-use Rattle.arrival_laws.proofs.Keeping.{some_came, not-one}
-use Rattle.arrival_laws.proofs.Standing.{stands, stands-for}
+use Rattle.arrival_laws.proofs.Keeping.{some_came, not_one}
+use Rattle.arrival_laws.proofs.Standing.{stands, stands_for}
 
 pub one_held : {ms : List (List ℕ)} {job : ℕ} {c d : List ℕ} → HeldFor ms job c → HeldFor ms job d → c ≡ d
 one_held {c} {d} (inl o) (inl p) =
     ⊎_elim (λ e. e) (λ l. ⊎_elim sym (λ k. absurd (omega arith)) (o.highest d p.came)) (p.highest c o.came)
-one_held (inl o) (inr p) = absurd (not-one p.two o)
-one_held (inr o) (inl p) = absurd (not-one o.two p)
+one_held (inl o) (inr p) = absurd (not_one p.two o)
+one_held (inr o) (inl p) = absurd (not_one o.two p)
 one_held {job} (inr o) (inr p) =
     let s = o.two in
     let t = p.two in
     let e : o.revision ≡ p.revision =
-    omega (arith, s.highest t.one t.one-came, t.one_at, t.highest s.one s.one-came, s.one_at) in
+    omega (arith, s.highest t.one t.one_came, t.one_at, t.highest s.one s.one_came, s.one_at) in
     o.conflict ∙ ap (conflict_bytes job) e ∙ sym p.conflict
 
 pub one_list : {a b : ℕ} {cs ds : List (List ℕ)} → HeldRising a cs → HeldRising b ds → ((c : List ℕ) → c ∈ cs → c ∈ ds)
@@ -52,7 +52,7 @@ one_list (next {c} l h r) (next {c = d} k i s) forth back =
 also : {ms : List (List ℕ)} {b d : List ℕ} → BoardAfter ms b → BoardAfter ms d → (c : List ℕ) → c ∈ held_on b → c ∈ held_on d
 also p q c i =
     let m = some_came (p.holds c i) in
-    let there = q.each-job m.0 m.1.among m.1.postable in
+    let there = q.each_job m.0 m.1.among m.1.postable in
     of-same (one_held (p.holds c i) (rw (there.1.1 ∙ m.1.for) at (q.holds there.0 there.1.0))) there.1.0
 
 pub one_board : {ms : List (List ℕ)} {b d : List ℕ} → BoardAfter ms b → BoardAfter ms d → b ≡ d
@@ -60,5 +60,6 @@ one_board {b} {d} p q =
     p.slots ∙ ap board_of (one_list (board_held b p.well_formed).0 (board_held d q.well_formed).0 (also p q) (also q p))
     ∙ sym q.slots
 
-pub any_order : (ms ns : List (List ℕ)) → AllBytes ms → OverFewJobs ms → SameMessages ms ns → post_all empty_board ms ≡ post_all empty_board ns
-any_order ms ns bytes over same = one_board (stands ms bytes over) (stands-for ms bytes over ns same)
+pub any_order : (ms ns : List (List ℕ)) → AllBytes ms → OverFewJobs ms → SameMessages ms ns
+    → post_all empty_board ms ≡ post_all empty_board ns
+any_order ms ns bytes over same = one_board (stands ms bytes over) (stands_for ms bytes over ns same)

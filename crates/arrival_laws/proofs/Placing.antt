@@ -1,7 +1,7 @@
 -- The four cases of `placed`, for a list of records and one more record (`placing`). The later lemmas split on these
--- cases. If the job numbers in the list rise, so do those in the result (`placed-rising`). The lemmas also show where
+-- cases. If the job numbers in the list rise, so do those in the result (`placed_rising`). The lemmas also show where
 -- each element of the result comes from (`comes`), that no job is lost (`stays`, `arrives`), and how many elements
--- there are (`grown`). Placing the record again changes nothing (`placed-again`), nor does placing a record that does
+-- there are (`grown`). Placing the record again changes nothing (`placed_again`), nor does placing a record that does
 -- not change what is held for its job (`placed_same`).
 use mathlib.Core.Path.{◌≡◌, refl, sym, ap, ◌∙◌}
 use mathlib.Core.Bool.{Bool, true, false, cond}
@@ -65,7 +65,8 @@ placed_rising (before k) bytes h l (next low held r) = next l h (next k held r)
 placed_rising {new} (meets {c} e) bytes h l (next low held r) =
     let job : job_of (joined c new) ≡ job_of c = joined_job (joining c new) bytes e ∙ sym e in
     next (rw (← job) at low) (joined_held (joining c new) held h) (rw (← job) at r)
-placed_rising (after k p) bytes h l (next low held r) = next low held (placed_rising p bytes h k r)
+placed_rising {above = above} (after {c = c} k p) bytes h l (next low held r) =
+    next low held (placed_rising {above = job_of c} p bytes h k r)
 
 -- ---- the origin of each element
 
@@ -81,8 +82,8 @@ comes {c} (before k) (next low held r) m =
     let apart = none_below (next k held r) in
     ⊎_elim (first apart) (λ n. kept n (apart c n)) (in-first m)
 comes (meets e) (next low held r) m = ⊎_elim (met (here refl) e) (λ n. kept (there n) (λ g. omega (arith, above_all r n))) (in-first m)
-comes {new} {c} (after {c = x} {cs} k p) (next low held r) m =
-    ⊎_elim (λ e. kept (here e) (λ g. omega (arith, ap job_of e))) (λ n. later (comes p r n)) (in-first m)
+comes {new} {above = above} {c = c} (after {c = x} {cs} k p) (next low held r) m =
+    ⊎_elim (λ e. kept (here e) (λ g. omega (arith, ap job_of e))) (λ n. later (comes {above = job_of x} p r n)) (in-first m)
   where
     later : Comes new cs c → Comes new (x ∷ cs) c
     later (kept n f) = kept (there n) f
@@ -114,8 +115,8 @@ pub grown : {new : List ℕ} {above : ℕ} {cs ds : List (List ℕ)} → Placing
 grown last none = inl (λ d n e. in-none n, refl)
 grown (before k) (next low held r) = inl (none_below (next k held r), refl)
 grown (meets {c} e) (next low held r) = inr ((c, (here refl, e)), refl)
-grown (after k p) (next low held r) =
-    ⊎_elim (λ n. inl (none_first (λ g. omega arith) n.0, ap suc n.1)) (λ s. inr (some_later s.0, ap suc s.1)) (grown p r)
+grown {above = above} (after {c = c} k p) (next low held r) =
+    ⊎_elim (λ n. inl (none_first (λ g. omega arith) n.0, ap suc n.1)) (λ s. inr (some_later s.0, ap suc s.1)) (grown {above = job_of c} p r)
 
 -- ---- a record that is placed again
 
@@ -137,5 +138,5 @@ placed_same last r m e f = absurd (in-none m)
 placed_same (before k) (next low h r) m e f = absurd (omega (arith, above_all (next k h r) m))
 placed_same {new} (meets {c} {cs} g) (next low h r) m e f =
     ⊎_elim (λ s. ap (λ l. l ∷ cs) (ap (λ l. joined l new) (sym s) ∙ f ∙ s)) (λ n. absurd (omega (arith, above_all r n))) (in-first m)
-placed_same (after {c} k p) (next low h r) m e f =
-    ⊎_elim (λ s. absurd (omega (arith, ap job_of s))) (λ n. ap (λ l. c ∷ l) (placed_same p r n e f)) (in-first m)
+placed_same {above = above} (after {c} k p) (next low h r) m e f =
+    ⊎_elim (λ s. absurd (omega (arith, ap job_of s))) (λ n. ap (λ l. c ∷ l) (placed_same {above = job_of c} p r n e f)) (in-first m)

@@ -1,8 +1,8 @@
 -- The cases of `post_of` for one record (`posting`): the refusals in their order, and a record that is taken. A refusal
 -- changes nothing (`unchanged`). B3 is given exactly for a postable record of a new job on a full board
--- (`full-exactly`). A record that is older than the held one, or the same, changes nothing (`older-or-same`). Posting
--- any record a second time changes nothing (`twice`) and has the same result (`twice-result`). From the empty board
--- on, the bytes stay a board whatever is posted (`always-board`), so B0 is never given (`never-b0`).
+-- (`full_exactly`). A record that is older than the held one, or the same, changes nothing (`older_or_same`). Posting
+-- any record a second time changes nothing (`twice`) and has the same result (`twice_result`). From the empty board
+-- on, the bytes stay a board whatever is posted (`always_board`), so B0 is never given (`never_b0`).
 use mathlib.Core.Path.{◌≡◌, refl, sym, ap, ◌∙◌}
 use mathlib.Core.Bool.{Bool, true, false, cond, not, true≢false}
 use mathlib.Core.List.Memᴰ.{head as here}
@@ -80,10 +80,10 @@ module _ (b new : List ℕ) where
       ⊎_elim (λ n. (omega (arith, n.1, held.1.0), n.0)) (λ s. absurd (omega (arith, s.1, held.1.0)))
       (grown (placing (held_on b) new) held.0)
 
-  pub full-exactly : ((post_of b new).posted ≡ Refused 3)
+  pub full_exactly : ((post_of b new).posted ≡ Refused 3)
       ↔ ((is_board b ≡ true) × (Postable new × ((length (held_on b) ≡ SLOTS) × NoneOf (job_of new) (held_on b))))
   unfolding placed_on
-  full-exactly = (
+  full_exactly = (
     by posting,
     λ h.
         let size : ℕ = length (placed (held_on b) new) in
@@ -102,10 +102,10 @@ module _ (b new : List ℕ) where
       by (taken f postable room) e = absurd (omega (arith, ap posted_number e))
 
   -- A record that does not change what is held for its job is taken, and the board stays as it was.
-  pub taken-same : (held : List ℕ) → is_board b ≡ true → Postable new → held ∈ held_on b → job_of held ≡ job_of new → joined held new ≡ held
+  pub taken_same : (held : List ℕ) → is_board b ≡ true → Postable new → held ∈ held_on b → job_of held ≡ job_of new → joined held new ≡ held
       → post_of b new ≡ record { posted = Taken; board = b }
   unfolding placed_on
-  taken-same held f postable i for e =
+  taken_same held f postable i for e =
       let on = board_held b f in
       let same = placed_same (placing (held_on b) new) on.0 i for e in
       judged f postable ∙ rw (same, le-ltb SLOTS (length (held_on b)) on.1.0)
@@ -113,21 +113,21 @@ module _ (b new : List ℕ) where
 
   module _ (bytes : AreBytes new) where
     -- If the record fits, the new bytes are a board, which holds the record placed among what was held before.
-    pub taken-board : is_board b ≡ true → Postable new → length (placed (held_on b) new) ≤ SLOTS →
+    pub taken_board : is_board b ≡ true → Postable new → length (placed (held_on b) new) ≤ SLOTS →
         (is_board (board_of (placed (held_on b) new)) ≡ true) × (held_on (board_of (placed (held_on b) new)) ≡ placed (held_on b) new)
-    taken-board f postable room =
+    taken_board f postable room =
         held_board (placed (held_on b) new)
         (placed_rising (placing (held_on b) new) bytes (outcome_held new postable.formed) postable.named (board_held b f).0) room
 
-    stays-board : is_board b ≡ true → is_board (post_of b new).board ≡ true
-    stays-board f = by posting
+    stays_board : is_board b ≡ true → is_board (post_of b new).board ≡ true
+    stays_board f = by posting
       where
         by : {o : Result} → Posting b new o → is_board o.board ≡ true
         by (no_board g) = f
         by (malformed g h) = f
         by (unnamed g h i) = f
         by (full g postable over) = f
-        by (taken g postable room) = (taken-board g postable room).0
+        by (taken g postable room) = (taken_board g postable room).0
 
 module _ (b new : List ℕ) (bytes : AreBytes new) where
   both : post_of (post_of b new).board new ≡ post_of b new
@@ -141,7 +141,7 @@ module _ (b new : List ℕ) (bytes : AreBytes new) where
       by (full f postable over) e = e
       by (taken f postable room) e =
           let held = placed (held_on b) new in
-          let on = taken-board b new bytes f postable room in
+          let on = taken_board b new bytes f postable room in
           let again : placed (held_on (board_of held)) new ≡ held =
           ap (λ l. placed l new) on.1 ∙ placed_again (placing (held_on b) new) bytes in
           judged (board_of held) new on.0 postable ∙ rw (again, le-ltb SLOTS (length held) room)
@@ -149,21 +149,21 @@ module _ (b new : List ℕ) (bytes : AreBytes new) where
   pub twice : (post_of (post_of b new).board new).board ≡ (post_of b new).board
   twice = ap (λ (o : Result). o.board) both
 
-  pub twice-result : (post_of (post_of b new).board new).posted ≡ (post_of b new).posted
-  twice-result = ap (λ (o : Result). o.posted) both
+  pub twice_result : (post_of (post_of b new).board new).posted ≡ (post_of b new).posted
+  twice_result = ap (λ (o : Result). o.posted) both
 
 -- ---- a record that is older than what is held for its job, or the same
 
 module _ (b new held : List ℕ) (f : is_board b ≡ true) (postable : Postable new) (i : held ∈ held_on b) (for : job_of held ≡ job_of new)
     (how : (revision_of new < revision_of held) ⊎ (held ≡ new)) where
   same : post_of b new ≡ record { posted = Taken; board = b }
-  same = taken-same b new held f postable i for (joined_kept (joining held new) how)
+  same = taken_same b new held f postable i for (joined_kept (joining held new) how)
 
-  pub older-or-same : (post_of b new).board ≡ b
-  older-or-same = ap (λ (o : Result). o.board) same
+  pub older_or_same : (post_of b new).board ≡ b
+  older_or_same = ap (λ (o : Result). o.board) same
 
-  pub older-or-same-taken : (post_of b new).posted ≡ Taken
-  older-or-same-taken = ap (λ (o : Result). o.posted) same
+  pub older_or_same_taken : (post_of b new).posted ≡ Taken
+  older_or_same_taken = ap (λ (o : Result). o.posted) same
 
 -- ---- any number of records for any number of jobs
 
@@ -173,7 +173,7 @@ starts_board = rw empty_board_lem (held_board [] none (omega arith))
 from : (b : List ℕ) (ms : List (List ℕ)) → is_board b ≡ true → AllBytes ms → is_board (post_all b ms) ≡ true
 unfolding post_all
 from b [] f all = f
-from b (m ∷ ms) f all = from (post_of b m).board ms (stays-board b m (all m (here refl)) f) (λ n i. all n (there i))
+from b (m ∷ ms) f all = from (post_of b m).board ms (stays_board b m (all m (here refl)) f) (λ n i. all n (there i))
 
 pub always_board : (ms : List (List ℕ)) → AllBytes ms → is_board (post_all empty_board ms) ≡ true
 always_board ms all = from empty_board ms starts_board.0 all

@@ -57,8 +57,8 @@ pub record OneRecord (ms : List (List ℕ)) (job : ℕ) (held : List ℕ) : Type
 pub record TwoDiffer (ms : List (List ℕ)) (job revision : ℕ) : Type 0 where
   pub one : List ℕ
   pub other : List ℕ
-  pub one-came : CameFor ms job one
-  pub other-came : CameFor ms job other
+  pub one_came : CameFor ms job one
+  pub other_came : CameFor ms job other
   pub one_at : revision_of one ≡ revision
   pub other_at : revision_of other ≡ revision
   pub differ : one ≡ other → ⊥
@@ -82,4 +82,4 @@ pub record BoardAfter (ms : List (List ℕ)) (b : List ℕ) : Type 0 where
   pub well_formed : is_board b ≡ true
   pub slots : b ≡ board_of (held_on b)
   pub holds : (held : List ℕ) → held ∈ held_on b → HeldFor ms (job_of held) held
-  pub each-job : (m : List ℕ) → m ∈ ms → Postable m → SomeOf (job_of m) (held_on b)
+  pub each_job : (m : List ℕ) → m ∈ ms → Postable m → SomeOf (job_of m) (held_on b)

@@ -1,6 +1,6 @@
 -- Bounds that follow from checks 3, 8, 9 and 10: those of c and c/s, of L, ρ and σ, of hh, and of the frame. Some
 -- checks test only the result of a later operation. The lower bound of the operand is then shown by contradiction
--- (`least-unless`): if the operand were smaller, the result would be too small as well.
+-- (`least_unless`): if the operand were smaller, the result would be too small as well.
 use mathlib.Core.Path.{◌≡◌, ap, ◌∙◌}
 use mathlib.Core.Bool.{Bool, true, false, not, cond, false≢true}
 use Prim.Native.Nat.{ℕ, zero, suc, ◌*◌, ◌^◌, ◌≤◌, ◌<◌}
@@ -19,7 +19,7 @@ use Rattle.vectors.specs.Vectors.{divided_by, opposite, root_or_nan}
 use Rattle.geometry.specs.Triangles.{at_least_zero, lambda_of}
 use Rattle.bound_laws.specs.Bounds.{Representable, AtMost, AtLeast, NotAbove, Within, VectorAtMost}
 use Rattle.bound_laws.proofs.Representable.{power_of_two, dyadic}
-use Rattle.bound_laws.proofs.Operations.{mul_most, mul_least, square_least, div_most, sub-most, sub-not-above, neg_most, above_zero}
+use Rattle.bound_laws.proofs.Operations.{mul_most, mul_least, square_least, div_most, sub_most, sub_not_above, neg_most, above_zero}
 use Rattle.bound_laws.proofs.Roots.{root_most, root_least, least_not_below}
 use Rattle.bound_laws.proofs.Comparisons.{zero_least, one_most, one_least, plane_factor_most, plane_factor_least}
 use Rattle.bound_laws.proofs.Comparisons.{not_above_most, chord_limit_least, not_at_most, least_positive, at_least_zero_most}
@@ -65,8 +65,8 @@ chord_within c s C S R = record {
 -- ---- L
 pub lambda_operand_lem : (v : Float) → Within v 1 (2 ^ 10) (2 ^ 42) 1 → NotAbove (1F ⊖ v) 1023 1024
 lambda_operand_lem v W =
-    let d = sub-most one_most W.most (power_of_two 43 (lit≤ tt)) (lit≤ tt) in
-    sub-not-above one_most one_least.not_negative W.least d (dyadic 1023 10 (lit< tt) (lit≤ tt)) (lit≤ tt)
+    let d = sub_most one_most W.most (power_of_two 43 (lit≤ tt)) (lit≤ tt) in
+    sub_not_above one_most one_least.not_negative W.least d (dyadic 1023 10 (lit< tt) (lit≤ tt)) (lit≤ tt)
 
 pub lambda_most : (c s : Float) (long : Bool) → Within (c ⊘ s) 1 (2 ^ 10) (2 ^ 42) 1 → AtMost (lambda_of c s long) 2047 2048
 unfolding lambda_of
@@ -104,15 +104,15 @@ is_above_zero {x} a P = positive_above x a.is_finite a.not_negative (above_zero 
 pub rho_most : (r1 r2 c : Float) → Within r1 1 1 (2 ^ 40) 1 → Within r2 1 1 (2 ^ 40) 1 → Within c 1 (2 ^ 11) (2 ^ 42) 1
     → AtMost ((r1 ⊖ r2) ⊘ c) (2 ^ 52) 1
 rho_most r1 r2 c R1 R2 C =
-    let d = sub-most R1.most R2.most (power_of_two 41 (lit≤ tt)) (lit≤ tt) in
+    let d = sub_most R1.most R2.most (power_of_two 41 (lit≤ tt)) (lit≤ tt) in
     div_most d C.least (lit< tt) (power_of_two 52 (lit≤ tt)) (lit≤ tt)
 
 pub sigma_operand : (ρ : Float) → AtMost ρ (2 ^ 52) 1 → (1F ⊖ ρ ⊗ ρ ≼ 0F) ≡ false → Within (1F ⊖ ρ ⊗ ρ) 1 (2 ^ 1074) 1 1
 sigma_operand ρ R h =
     let rr = mul_most R R (power_of_two 104 (lit≤ tt)) (lit≤ tt) in
     let rr' = square_least ρ R.is_finite (dyadic 0 0 (lit< tt) (lit≤ tt)) rr.is_finite in
-    let d = sub-most one_most rr (power_of_two 105 (lit≤ tt)) (lit≤ tt) in
-    let up = sub-not-above one_most one_least.not_negative rr' d (dyadic 1 0 (lit< tt) (lit≤ tt)) (lit≤ tt) in
+    let d = sub_most one_most rr (power_of_two 105 (lit≤ tt)) (lit≤ tt) in
+    let up = sub_not_above one_most one_least.not_negative rr' d (dyadic 1 0 (lit< tt) (lit≤ tt)) (lit≤ tt) in
     let l = not_at_most (1F ⊖ ρ ⊗ ρ) 0F 0 1 d.is_finite zero_least h in
     record {
       least = least_positive (1F ⊖ ρ ⊗ ρ) d.is_f64 d.is_finite l.0.not_negative l.1;

@@ -166,7 +166,7 @@ one_not_under x f h = not_under x 1F 1 1 (lit< tt) (lit< tt) f one_is h
 pub one_not_over : (x : Float) → T (fits binary64 x) → finite_of x ≡ true → (1F ≺ x) ≡ false → NotAbove x 1 1
 one_not_over x t f h = not_over x 1F 1 1 (lit< tt) t f one_is h
 
--- A component that passes check 2 is at most 2^40 in magnitude (`component-most`).
+-- A component that passes check 2 is at most 2^40 in magnitude (`component_most`).
 magnitude_most : (x : Float) → T (fits binary64 x) → finite_of x ≡ true → NotAbove (magnitude_of x) (2 ^ 40) 1 → AtMost x (2 ^ 40) 1
 unfolding magnitude_of finite_of
 magnitude_most nan t f h = absurd (false≢true f)
@@ -195,7 +195,7 @@ component_most x t h =
     magnitude_most x t f (not_over (magnitude_of x) 2^40F (2 ^ 40) 1 (lit< tt) (magnitude_fits x t) g two_to_40_is a.1)
 
 -- ---- bounds that follow if `x ≼ y` is false
--- If x ≼ y is false and y is not negative, x is above 0 and at least any lower bound of y (`not-at-most`).
+-- If x ≼ y is false and y is not negative, x is above 0 and at least any lower bound of y (`not_at_most`).
 is_above : (m : ℕ) (e : ℤ) (n : ℕ) (d : ℤ) → le (fin false m e) (fin false n d) ≡ false → n * up d * down e < m * up e * down d
 unfolding le
 is_above m e n d h =

@@ -1,5 +1,5 @@
 -- For every finite number that is not negative there is a whole number g such that the number is between g / 2 ^ 46 and
--- (g + 1) / 2 ^ 46 (`fixed-point`). This g is the whole quotient of its numerator times 2 ^ 46 by its denominator. The
+-- (g + 1) / 2 ^ 46 (`fixed_point`). This g is the whole quotient of its numerator times 2 ^ 46 by its denominator. The
 -- fraction K / 2 ^ 46 is an f64 for every K of at most 53 binary digits (`dyadic`). So bounds that are whole multiples
 -- of 2 ^ -46 lose at most one step of 2 ^ -46 in an operation whose result is below 2 ^ 7.
 use Prim.Native.Nat.{ℕ, ◌+◌, ◌*◌, ◌/◌, ◌^◌, ◌≤◌, ◌<◌}

@@ -16,7 +16,7 @@ products X Y q q' p p' dx dy h k =
     le_trans (le_of_eq (mul-mul-mul_comm X Y q q')) (le_trans (mul-le-mul h k) (le_of_eq (mul-mul-mul_comm p dx p' dy)))
 
 -- If X / dx ≤ p / q and p' / q' ≤ Y / dy, then X / dx divided by Y / dy is at most p / q divided by p' / q'.
--- `least-quotients` is the same with all inequalities reversed.
+-- `least_quotients` is the same with all inequalities reversed.
 pub quotients : (X dy q p' p q' Y dx : ℕ) → X * q ≤ p * dx → p' * dy ≤ Y * q' → X * dy * (q * p') ≤ p * q' * (Y * dx)
 quotients X dy q p' p q' Y dx h k =
     let l : X * dy * (q * p') ≡ X * q * (p' * dy) = simp (mul_assoc, mul_comm, mul_left_comm) in
@@ -29,7 +29,7 @@ least_quotients X dy q p' p q' Y dx h k =
     let r : X * q * (p' * dy) ≡ X * dy * (q * p') = simp (mul_assoc, mul_comm, mul_left_comm) in
     le_trans (le_of_eq l) (le_trans (mul-le-mul h k) (le_of_eq r))
 
--- If X / dx ≤ p / q and Y / dy ≤ p' / q', the sum of the left sides is at most the sum of the right sides. `least-sums`
+-- If X / dx ≤ p / q and Y / dy ≤ p' / q', the sum of the left sides is at most the sum of the right sides. `least_sums`
 -- is the same with all inequalities reversed.
 pub sums : (X dx Y dy p q p' q' : ℕ) → X * q ≤ p * dx → Y * q' ≤ p' * dy → (X * dy + Y * dx) * (q * q') ≤ (p * q' + p' * q) * (dx * dy)
 sums X dx Y dy p q p' q' h k =
@@ -84,8 +84,8 @@ sum_below X dx Y dy p q p' q' P Q A B h k l = le_of_mul-le-mul_right {k = q * q'
         let c : (P * q' + p' * Q) * q * (dx * dy) ≤ p * (Q * q') * (dx * dy) = mul-le-mul_right (dx * dy) l in
         omega arith
 
--- Under the same conditions the difference of X / dx and Y / dy is at least P / Q (`least-differences`), and X / dx is
--- at least Y / dy (`first-larger`).
+-- Under the same conditions the difference of X / dx and Y / dy is at least P / Q (`least_differences`), and X / dx is
+-- at least Y / dy (`first_larger`).
 pub least_differences : (X dx Y dy p q p' q' P Q : ℕ) → 0 < q → 0 < q' → p * dx ≤ X * q → Y * q' ≤ p' * dy
     → (P * q' + p' * Q) * q ≤ p * (Q * q') → P * (dx * dy) ≤ (X * dy - Y * dx) * Q
 least_differences X dx Y dy p q p' q' P Q A B h k l =

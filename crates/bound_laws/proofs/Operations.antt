@@ -1,7 +1,7 @@
 -- Bounds of x ⊕ y, x ⊖ y, x ⊗ y and x ⊘ y that follow from bounds of x and y. An operation on finite numbers rounds the
 -- exact result once. So an f64 that bounds the exact result also bounds the rounded result (Rounding.antt). Lemmas
--- whose names end in `-most` bound the magnitude of the result and show that it is finite. Lemmas whose names end in
--- `-least` bound the result from below by a number that is not negative. `sub-not-above` bounds a difference from
+-- whose names end in `_most` bound the magnitude of the result and show that it is finite. Lemmas whose names end in
+-- `_least` bound the result from below by a number that is not negative. `sub_not_above` bounds a difference from
 -- above.
 use mathlib.Core.Path.{◌≡◌, refl, sym, ap, ◌∙◌, subst}
 use mathlib.Core.Bool.{Bool, true, false, not, ◌&&◌, beq, cond, true≢false, false≢true}
@@ -200,9 +200,9 @@ add_most {x} {y} {p} {q} {p'} {q'} {P} {Q} a b H h =
     (through (num x * den y + num y * den x) (p * q' + p' * q) P (den x * den y) (q * q') Q (mul-pos a.divisor b.divisor)
     (sums (num x) (den x) (num y) (den y) p q p' q' a.at_most b.at_most) h))
 
-pub sub-most : {x y : Float} {p q p' q' P Q : ℕ} → AtMost x p q → AtMost y p' q' → Representable P Q
+pub sub_most : {x y : Float} {p q p' q' P Q : ℕ} → AtMost x p q → AtMost y p' q' → Representable P Q
     → (p * q' + p' * q) * Q ≤ P * (q * q') → AtMost (x ⊖ y) P Q
-sub-most {x} {y} {P = P} {Q = Q} a b H h = subst (λ (z : Float). AtMost z P Q) (sym (sub_is x y)) (add_most a (neg_most b) H h)
+sub_most {x} {y} {P = P} {Q = Q} a b H h = subst (λ (z : Float). AtMost z P Q) (sym (sub_is x y)) (add_most a (neg_most b) H h)
 
 -- If both signs are +, `sum` rounds the sum of the two magnitudes.
 sum_plus : (s t : Bool) (a b c : ℕ) → s ≡ false → t ≡ false → sum binary64 s a t b c ≡ round binary64 false (a + b) c
@@ -225,7 +225,7 @@ add_least {x} {y} {p} {q} {p'} {q'} {P} {Q} a b H f h =
 
 -- ---- differences
 -- Let P / Q be an f64, and let x and y be numbers that are not negative, with x ≤ p / q and p' / q' ≤ y. If
--- p / q ≤ P / Q + p' / q', then x ⊖ y is at most P / Q (`sub-not-above`).
+-- p / q ≤ P / Q + p' / q', then x ⊖ y is at most P / Q (`sub_not_above`).
 sum_not_above : {P Q : ℕ} (s t : Bool) (a b c : ℕ) → 0 < c → Representable P Q → s ≡ false → t ≡ true → (a - b) * Q ≤ P * c
     → finite_of (sum binary64 s a t b c) ≡ true → T (fits binary64 (sum binary64 s a t b c)) → NotAbove (sum binary64 s a t b c) P Q
 unfolding sum
@@ -241,9 +241,9 @@ sum_not_above {P} {Q} false true a b c C H e f h g i = by (ltb a b) g i
         record { divisor = H.divisor; is_f64 = i; is_finite = g; not_above = λ n. absurd (true≢false (sym r ∙ n)) }
     by false g i = record { divisor = H.divisor; is_f64 = i; is_finite = g; not_above = λ n. (round_most false (a - b) c C H h).at_most }
 
-pub sub-not-above : {x y : Float} {p q p' q' l m P Q : ℕ} → AtMost x p q → negative x ≡ false → AtLeast y p' q' → AtMost (x ⊖ y) l m
+pub sub_not_above : {x y : Float} {p q p' q' l m P Q : ℕ} → AtMost x p q → negative x ≡ false → AtLeast y p' q' → AtMost (x ⊖ y) l m
     → Representable P Q → p * (Q * q') ≤ (P * q' + p' * Q) * q → NotAbove (x ⊖ y) P Q
-sub-not-above {x} {y} {p} {q} {p'} {q'} {l} {m} {P} {Q} a s b r H h =
+sub_not_above {x} {y} {p} {q} {p'} {q'} {l} {m} {P} {Q} a s b r H h =
     let e : x ⊖ y ≡ sum binary64 (negative x) (num x * den y) (negative (neg y)) (num y * den x) (den x * den y) =
     sub_is x y ∙ add_is x (neg y) a.is_finite (neg_finite y ∙ b.is_finite)
     ∙ ap (λ (d : ℕ). sum binary64 (negative x) (num x * d) (negative (neg y)) (num (neg y) * den x) (den x * d)) (neg_den y)
@@ -255,7 +255,7 @@ sub-not-above {x} {y} {p} {q} {p'} {q'} {l} {m} {P} {Q} a s b r H h =
     (subst (λ (z : Float). finite_of z ≡ true) e r.is_finite) (subst (λ (z : Float). T (fits binary64 z)) e r.is_f64))
 
 -- Let P / Q be an f64, p / q ≤ x and |y| ≤ p' / q'. If P / Q + p' / q' ≤ p / q and x ⊕ y is finite, then x ⊕ y is at
--- least P / Q (`add-any-least`).
+-- least P / Q (`add_any_least`).
 sum_any_least : {P Q : ℕ} (s t : Bool) (a b c : ℕ) → 0 < c → Representable P Q → s ≡ false → b ≤ a → P * c ≤ (a - b) * Q
     → finite_of (sum binary64 s a t b c) ≡ true → AtLeast (sum binary64 s a t b c) P Q
 unfolding sum
@@ -282,8 +282,8 @@ add_any_least {x} {y} {p} {q} {p'} {q'} {P} {Q} a b H f h =
     (least_differences (num x) (den x) (num y) (den y) p q p' q' P Q a.divisor b.divisor a.at_least b.at_most h)
     (subst (λ (z : Float). finite_of z ≡ true) e f))
 
-pub sub-least : {x y : Float} {p q p' q' P Q : ℕ} → AtLeast x p q → AtMost y p' q' → Representable P Q → finite_of (x ⊖ y) ≡ true
+pub sub_least : {x y : Float} {p q p' q' P Q : ℕ} → AtLeast x p q → AtMost y p' q' → Representable P Q → finite_of (x ⊖ y) ≡ true
     → (P * q' + p' * Q) * q ≤ p * (Q * q') → AtLeast (x ⊖ y) P Q
-sub-least {x} {y} {P = P} {Q = Q} a b H f h =
+sub_least {x} {y} {P = P} {Q = Q} a b H f h =
     let g = subst (λ (z : Float). finite_of z ≡ true) (sub_is x y) f in
     subst (λ (z : Float). AtLeast z P Q) (sym (sub_is x y)) (add_any_least a (neg_most b) H g h)

@@ -1,4 +1,4 @@
--- The bounds of every question that no entrance check refuses (`past-bounds`). No square root in its triangle, wanted
+-- The bounds of every question that no entrance check refuses (`past_bounds`). No square root in its triangle, wanted
 -- time or frame is refused, every number is finite, |L| is below 1, and the wanted time is finite and above 0. The
 -- proof follows 01's steps, starting from the components of the positions. The bounds of each step follow from those of
 -- the earlier steps and from the check on the step's result, if there is one.
@@ -33,7 +33,7 @@ use Rattle.bound_laws.proofs.Checks.{rho_most, sigma_operand, sigma_within, norm
 use Rattle.bound_laws.proofs.Checks.{divided_most, opposite_most}
 
 -- ---- the numbers of a question
--- Every number that is read from bytes is an f64 (`question-f64`).
+-- Every number that is read from bytes is an f64 (`question_f64`).
 record F64Vector (v : Vector) : Type 0 where
   x : T (fits binary64 v.x)
   y : T (fits binary64 v.y)
@@ -99,11 +99,11 @@ module _ (p1 p2 : Vector) (long : Bool) (P1 : VectorAtMost p1 (2 ^ 40) 1) (P2 : 
   QC : Within qc 0 1 (2 ^ 84) 1
   QC = difference_norm (difference p2 p1) (difference_vector_most p2 p1 P2 P1)
 
-  first-radius : AtMost r1 (2 ^ 41) 1
-  first-radius = root_most Q1.most (least_not_below Q1.least) (power_of_two 41 (lit≤ tt)) (lit≤ tt)
+  first_radius : AtMost r1 (2 ^ 41) 1
+  first_radius = root_most Q1.most (least_not_below Q1.least) (power_of_two 41 (lit≤ tt)) (lit≤ tt)
 
-  second-radius : AtMost r2 (2 ^ 41) 1
-  second-radius = root_most Q2.most (least_not_below Q2.least) (power_of_two 41 (lit≤ tt)) (lit≤ tt)
+  second_radius : AtMost r2 (2 ^ 41) 1
+  second_radius = root_most Q2.most (least_not_below Q2.least) (power_of_two 41 (lit≤ tt)) (lit≤ tt)
 
   C : Within c 0 1 (2 ^ 42) 1
   C = record {
@@ -111,14 +111,14 @@ module _ (p1 p2 : Vector) (long : Bool) (P1 : VectorAtMost p1 (2 ^ 40) 1) (P2 : 
     most = root_most QC.most (least_not_below QC.least) (power_of_two 42 (lit≤ tt)) (lit≤ tt);
   }
 
-  shape-bounds : radius_outside (shape_of p1 p2 long) ≡ false → no_plane (shape_of p1 p2 long) ≡ false
+  shape_bounds : radius_outside (shape_of p1 p2 long) ≡ false → no_plane (shape_of p1 p2 long) ≡ false
       → short_chord (shape_of p1 p2 long).triangle ≡ false → flat_triangle (shape_of p1 p2 long).triangle ≡ false
       → ShapeBounds p1 p2 (shape_of p1 p2 long)
   unfolding radius_outside no_plane short_chord flat_triangle shape_of triangle_of
-  shape-bounds radii plane short flat =
+  shape_bounds radii plane short flat =
       let rr = both_false (outside_of 1F 2^40F r1) (outside_of 1F 2^40F r2) radii in
-      let R1 = within_40 r1 first-radius.is_f64 rr.0 in
-      let R2 = within_40 r2 second-radius.is_f64 rr.1 in
+      let R1 = within_40 r1 first_radius.is_f64 rr.0 in
+      let R2 = within_40 r2 second_radius.is_f64 rr.1 in
       let S = semiperimeter_within r1 r2 c R1 R2 C in
       let K = ratio_within c s C S short in
       let C' = chord_within c s C S K in
@@ -208,7 +208,7 @@ question_bounds s P =
     let far = both_false (position_far q.r1) (position_far q.r2) P.positions in
     let P1 = position_most q.r1 R.r1 far.0 in
     let P2 = position_most q.r2 R.r2 far.1 in
-    let G = shape-bounds q.r1 q.r2 (is_long_way q) P1 P2 P.radii P.plane P.chord P.flat in
+    let G = shape_bounds q.r1 q.r2 (is_long_way q) P1 P2 P.radii P.plane P.chord P.flat in
     let M = within_60 q.mu R.mu P.mu in
     let D = within_40 q.time R.time P.time in
     record {

@@ -1,4 +1,4 @@
--- Two kinds of fractions are f64s: 2 ^ a for a of at most 1023 (`power-of-two`), and K / 2 ^ b for K of at most 53
+-- Two kinds of fractions are f64s: 2 ^ a for a of at most 1023 (`power_of_two`), and K / 2 ^ b for K of at most 53
 -- binary digits and b of at most 1074 (`dyadic`). In units of 2 ^ -1074, both are a whole number of at most 53 binary
 -- digits times a power of two, and both are below 2 ^ 1024. By `round_exact` of the library, rounding does not change
 -- them.

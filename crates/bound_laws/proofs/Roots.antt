@@ -1,7 +1,7 @@
--- Bounds of a square root. If x is finite and not below 0, its root is not refused (`root-value`). Let c / d be an f64.
--- If x is at most the square of c / d, the root is at most c / d (`root-most`). If x is above 0 and at least the square
--- of c / d, the root is at least c / d (`root-least`). The reason is that every other f64 is farther from √x than the
--- root is (`nearest-root`), so c / d cannot be between √x and the root.
+-- Bounds of a square root. If x is finite and not below 0, its root is not refused (`root_value`). Let c / d be an f64.
+-- If x is at most the square of c / d, the root is at most c / d (`root_most`). If x is above 0 and at least the square
+-- of c / d, the root is at least c / d (`root_least`). The reason is that every other f64 is farther from √x than the
+-- root is (`nearest_root`), so c / d cannot be between √x and the root.
 use mathlib.Core.Path.{◌≡◌, refl, sym, ap, ◌∙◌, subst}
 use mathlib.Core.Logic.{inl, inr}
 use mathlib.Core.Bool.{Bool, true, false, not, true≢false, false≢true}
@@ -103,30 +103,30 @@ module _ (x r : Float) (fits-x : T (fits binary64 x)) (finite : finite_of x ≡ 
       let f = N.nearest bound (round-fits binary64 false c d) v.1 n in
       subst (λ (s : Bool). Farther (units_of x * 2 ^ 1074) (units_of r) s (units_of bound)) v.2 f
 
-  bound-units : units_of bound * d ≡ c * 2 ^ 1074
-  bound-units =
+  bound_units : units_of bound * d ≡ c * 2 ^ 1074
+  bound_units =
       let u = units_size bound (round-fits binary64 false c d) (value_is bound false c d H.exact).0 in
       crossed (num bound) (den bound) (units_of bound) (2 ^ 1074) c d (den_pos bound) u (size_of bound false c d H.exact)
 
-  root-units : num r * 2 ^ 1074 ≡ units_of r * den r
-  root-units = units_size r N.is_f64 N.is_finite
+  root_units : num r * 2 ^ 1074 ≡ units_of r * den r
+  root_units = units_size r N.is_f64 N.is_finite
 
   differ : (l : units_of bound ≡ units_of r → ⊥) → bound ≡ r → ⊥
   differ l e = l (ap units_of e)
 
-  is-most : (p q : ℕ) → 0 < q → num x * q ≤ p * den x → p * (d * d) ≤ c * c * q → AtMost r c d
-  is-most p q Q h k = record {
+  is_most : (p q : ℕ) → 0 < q → num x * q ≤ p * den x → p * (d * d) ≤ c * c * q → AtMost r c d
+  is_most p q Q h k = record {
     divisor = H.divisor;
     is_f64 = N.is_f64;
     is_finite = N.is_finite;
-    at_most = back (num r) (den r) (units_of r) (units_of bound) (2 ^ 1074) (pow_pos 1074) root-units bound-units in-units;
+    at_most = back (num r) (den r) (units_of r) (units_of bound) (2 ^ 1074) (pow_pos 1074) root_units bound_units in_units;
   }
     where
       X : units_of x * q ≤ p * 2 ^ 1074
       X = through (units_of x) (num x) p (2 ^ 1074) (den x) q (den_pos x) (le_of_eq (sym (units_size x fits-x finite))) h
 
       square : units_of x * 2 ^ 1074 ≤ units_of bound * units_of bound
-      square = below_square (units_of x) (units_of bound) p q c d (2 ^ 1074) Q H.divisor X bound-units k
+      square = below_square (units_of x) (units_of bound) p q c d (2 ^ 1074) Q H.divisor X bound_units k
 
       by : (b : Bool) → (T b → units_of bound < units_of r) → (T (not b) → units_of r ≤ units_of bound) → units_of r ≤ units_of bound
       by true f g =
@@ -135,8 +135,8 @@ module _ (x r : Float) (fits-x : T (fits binary64 x)) (finite : finite_of x ≡ 
           (farther (differ (λ (e : units_of bound ≡ units_of r). lt_irrefl (units_of r) (subst (λ (z : ℕ). z < units_of r) e (f tt))))))
       by false f g = g tt
 
-      in-units : units_of r ≤ units_of bound
-      in-units =
+      in_units : units_of r ≤ units_of bound
+      in_units =
           by (ltb (units_of bound) (units_of r)) (ltb→lt (units_of bound) (units_of r)) (nltb→le (units_of bound) (units_of r))
 
       back : (n e R Y u : ℕ) → 0 < u → n * u ≡ R * e → Y * d ≡ c * u → R ≤ Y → n * d ≤ c * e
@@ -149,19 +149,19 @@ module _ (x r : Float) (fits-x : T (fits binary64 x)) (finite : finite_of x ≡ 
               let h : Y * d * e ≡ c * u * e = ap (λ (z : ℕ). z * e) b in
               omega arith
 
-  is-least : (p q : ℕ) → 0 < q → p * den x ≤ num x * q → c * c * q ≤ p * (d * d) → AtLeast r c d
-  is-least p q Q h k = record {
+  is_least : (p q : ℕ) → 0 < q → p * den x ≤ num x * q → c * c * q ≤ p * (d * d) → AtLeast r c d
+  is_least p q Q h k = record {
     divisor = H.divisor;
     is_finite = N.is_finite;
     not_negative = N.is_positive;
-    at_least = back (num r) (den r) (units_of r) (units_of bound) (2 ^ 1074) (pow_pos 1074) root-units bound-units in-units;
+    at_least = back (num r) (den r) (units_of r) (units_of bound) (2 ^ 1074) (pow_pos 1074) root_units bound_units in_units;
   }
     where
       X : p * 2 ^ 1074 ≤ units_of x * q
       X = through p (num x) (units_of x) q (den x) (2 ^ 1074) (den_pos x) h (le_of_eq (units_size x fits-x finite))
 
       square : units_of bound * units_of bound ≤ units_of x * 2 ^ 1074
-      square = above_square (units_of x) (units_of bound) p q c d (2 ^ 1074) Q H.divisor X bound-units k
+      square = above_square (units_of x) (units_of bound) p q c d (2 ^ 1074) Q H.divisor X bound_units k
 
       by : (b : Bool) → (T b → units_of r < units_of bound) → (T (not b) → units_of bound ≤ units_of r) → units_of bound ≤ units_of r
       by true f g =
@@ -170,8 +170,8 @@ module _ (x r : Float) (fits-x : T (fits binary64 x)) (finite : finite_of x ≡ 
           (farther (differ (λ (e : units_of bound ≡ units_of r). lt_irrefl (units_of r) (subst (λ (z : ℕ). units_of r < z) e (f tt))))))
       by false f g = g tt
 
-      in-units : units_of bound ≤ units_of r
-      in-units =
+      in_units : units_of bound ≤ units_of r
+      in_units =
           by (ltb (units_of r) (units_of bound)) (ltb→lt (units_of r) (units_of bound)) (nltb→le (units_of r) (units_of bound))
 
       back : (n e R Y u : ℕ) → 0 < u → n * u ≡ R * e → Y * d ≡ c * u → Y ≤ R → c * e ≤ n * d
@@ -207,7 +207,7 @@ most_of (fin s zero e) p q c d a n H h =
 most_of (fin true (suc m) e) p q c d a n H h = absurd (true≢false (sym (some_below true m e) ∙ n))
 most_of (fin false (suc m) e) p q c d a n H h =
     let x = fin false (suc m) e in
-    is-most x (root_of_units (units_of x)) a.is_f64 refl (nearest_root m e a.is_f64) c d H p q a.divisor a.at_most h
+    is_most x (root_of_units (units_of x)) a.is_f64 refl (nearest_root m e a.is_f64) c d H p q a.divisor a.at_most h
 
 pub root_most : {x : Float} {p q c d : ℕ} → AtMost x p q → (x ≺ 0F) ≡ false → Representable c d → p * (d * d) ≤ c * c * q
     → AtMost (root_or_nan x) c d
@@ -224,7 +224,7 @@ least_of (fin s zero e) p q c d t a P H h =
 least_of (fin true (suc m) e) p q c d t a P H h = absurd (true≢false a.not_negative)
 least_of (fin false (suc m) e) p q c d t a P H h =
     let x = fin false (suc m) e in
-    is-least x (root_of_units (units_of x)) t refl (nearest_root m e t) c d H p q a.divisor a.at_least h
+    is_least x (root_of_units (units_of x)) t refl (nearest_root m e t) c d H p q a.divisor a.at_least h
 
 pub root_least : {x : Float} {p q c d : ℕ} → T (fits binary64 x) → AtLeast x p q → 0 < p → Representable c d → c * c * q ≤ p * (d * d)
     → AtLeast (root_or_nan x) c d

@@ -1,6 +1,6 @@
 -- Rounding keeps a bound p / q that is itself an f64. If a / c is at most p / q, then a / c with either sign rounds to
--- a finite f64 whose magnitude is at most p / q (`round-most`). If a / c is at least p / q and rounds to a finite f64,
--- then that f64 is at least p / q (`round-least`). The reason is that rounding keeps the order (`round_mono` of the
+-- a finite f64 whose magnitude is at most p / q (`round_most`). If a / c is at least p / q and rounds to a finite f64,
+-- then that f64 is at least p / q (`round_least`). The reason is that rounding keeps the order (`round_mono` of the
 -- library), and p / q rounds to itself.
 use mathlib.Core.Path.{◌≡◌, refl, sym, ap, ◌∙◌, subst}
 use mathlib.Core.Bool.{Bool, true, false, not, ◌&&◌, ◌||◌, cond, true≢false, false≢true}
@@ -17,7 +17,7 @@ use Rattle.float64.specs.Nearness.{negative}
 use Rattle.bound_laws.specs.Bounds.{Representable, AtMost, AtLeast}
 
 -- ---- rounding of either sign
--- Rounding with the sign − gives the negated result of rounding with the sign + (`round-signed`).
+-- Rounding with the sign − gives the negated result of rounding with the sign + (`round_signed`).
 abbrev signed : Bool → Float → Float
 signed false x = x
 signed true x = neg x
@@ -67,7 +67,7 @@ round_nonnegative a c =
 
 -- ---- the order of two numbers as an inequality of fractions
 -- Let x be a finite number with the sign +, or +∞, and let y have the value p / q. If x ≤ y, then x is finite and at
--- most p / q (`below-value`). If y ≤ x and x is finite, then x is at least p / q (`above-value`).
+-- most p / q (`below_value`). If y ≤ x and x is finite, then x is at least p / q (`above_value`).
 lt_or_eq : (a b : ℕ) → T (ltb a b || (eqb a b && true)) → a ≤ b
 lt_or_eq a b t = go (ltb a b) (ltb→lt a b) t
   where
@@ -127,7 +127,7 @@ round_least {p} {q} a c C H f h =
     let g = above_value (round binary64 false a c) (round binary64 false p q) p q f (round_nonnegative a c) H.exact t in
     record { divisor = H.divisor; is_finite = f; not_negative = g.0; at_least = g.1 }
 
--- Rounding with the other sign gives the negated number (`round-neg`).
+-- Rounding with the other sign gives the negated number (`round_neg`).
 pub neg_neg : (x : Float) → neg (neg x) ≡ x
 unfolding neg
 neg_neg nan = refl
@@ -140,7 +140,7 @@ pub round_neg : (s : Bool) (a c : ℕ) → round binary64 (not s) a c ≡ neg (r
 round_neg false a c = round_signed true a c
 round_neg true a c = sym (ap neg (round_signed true a c) ∙ neg_neg (round binary64 false a c))
 
--- The result of `round` for the sign − has the sign − (`round-negative`).
+-- The result of `round` for the sign − has the sign − (`round_negative`).
 neg_nonnegative : (x : Float) → Nonnegative x → negative (neg x) ≡ true
 unfolding neg
 neg_nonnegative nan P = absurd P

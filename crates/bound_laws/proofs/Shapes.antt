@@ -11,7 +11,7 @@ use Rattle.geometry.specs.Triangles.{semiperimeter_of, wanted_of}
 use Rattle.bound_laws.specs.Bounds.{Representable, Within, VectorAtMost}
 use Rattle.bound_laws.specs.QuestionBounds.{wanted_operand}
 use Rattle.bound_laws.proofs.Representable.{power_of_two, dyadic}
-use Rattle.bound_laws.proofs.Operations.{mul_most, mul_least, square_least, div_most, div_least, add_most, add_least, sub-most}
+use Rattle.bound_laws.proofs.Operations.{mul_most, mul_least, square_least, div_most, div_least, add_most, add_least, sub_most}
 use Rattle.bound_laws.proofs.Roots.{root_most, root_least, least_not_below}
 use Rattle.bound_laws.proofs.Comparisons.{two_most, two_least}
 
@@ -50,9 +50,9 @@ pub difference_vector_most : (a b : Vector) → VectorAtMost a (2 ^ 40) 1 → Ve
     → VectorAtMost (difference a b) (2 ^ 41) 1
 unfolding difference
 difference_vector_most a b A B = let H = power_of_two 41 (lit≤ tt) in record {
-  x = sub-most A.x B.x H (lit≤ tt);
-  y = sub-most A.y B.y H (lit≤ tt);
-  z = sub-most A.z B.z H (lit≤ tt);
+  x = sub_most A.x B.x H (lit≤ tt);
+  y = sub_most A.y B.y H (lit≤ tt);
+  z = sub_most A.z B.z H (lit≤ tt);
 }
 
 pub difference_norm : (v : Vector) → VectorAtMost v (2 ^ 41) 1 → Within (norm_squared v) 0 1 (2 ^ 84) 1
@@ -64,9 +64,9 @@ cross_most a b A B =
     let P = power_of_two 80 (lit≤ tt) in
     let H = power_of_two 81 (lit≤ tt) in
     record {
-      x = sub-most (mul_most A.y B.z P (lit≤ tt)) (mul_most A.z B.y P (lit≤ tt)) H (lit≤ tt);
-      y = sub-most (mul_most A.z B.x P (lit≤ tt)) (mul_most A.x B.z P (lit≤ tt)) H (lit≤ tt);
-      z = sub-most (mul_most A.x B.y P (lit≤ tt)) (mul_most A.y B.x P (lit≤ tt)) H (lit≤ tt);
+      x = sub_most (mul_most A.y B.z P (lit≤ tt)) (mul_most A.z B.y P (lit≤ tt)) H (lit≤ tt);
+      y = sub_most (mul_most A.z B.x P (lit≤ tt)) (mul_most A.x B.z P (lit≤ tt)) H (lit≤ tt);
+      z = sub_most (mul_most A.x B.y P (lit≤ tt)) (mul_most A.y B.x P (lit≤ tt)) H (lit≤ tt);
     }
 
 pub cross_norm : (v : Vector) → VectorAtMost v (2 ^ 81) 1 → Within (norm_squared v) 0 1 (2 ^ 164) 1

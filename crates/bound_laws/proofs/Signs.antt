@@ -1,6 +1,6 @@
 -- Operations on negated numbers. A product with one negated factor, or a quotient with a negated dividend, is the
--- negated result (`neg-mul`, `mul-neg`, `neg-div`). Two negated factors have the same product as before
--- (`neg-mul-neg`). These follow from the equations of Operations.antt: an operation rounds the exact result, and
+-- negated result (`neg_mul`, `mul_neg`, `neg_div`). Two negated factors have the same product as before
+-- (`neg_mul_neg`). These follow from the equations of Operations.antt: an operation rounds the exact result, and
 -- rounding treats both signs alike.
 use mathlib.Core.Path.{◌≡◌, refl, sym, ap, ◌∙◌}
 use mathlib.Core.Bool.{Bool, true, false, not}
@@ -26,8 +26,8 @@ not_unlike false true = refl
 not_unlike false false = refl
 
 module _ (x y : Float) (f : finite_of x ≡ true) (g : finite_of y ≡ true) where
-  pub neg-mul : neg x ⊗ y ≡ neg (x ⊗ y)
-  neg-mul =
+  pub neg_mul : neg x ⊗ y ≡ neg (x ⊗ y)
+  neg_mul =
       mul_is (neg x) y (neg_finite x ∙ f) g
       ∙ ap (λ (s : Bool). round binary64 (unlike s (negative y)) (num (neg x) * num y) (den (neg x) * den y)) (neg_sign x f)
       ∙ ap (λ (n : ℕ). round binary64 (unlike (not (negative x)) (negative y)) (n * num y) (den (neg x) * den y)) (neg_num x)
@@ -36,8 +36,8 @@ module _ (x y : Float) (f : finite_of x ≡ true) (g : finite_of y ≡ true) whe
       ∙ round_neg (unlike (negative x) (negative y)) (num x * num y) (den x * den y)
       ∙ ap neg (sym (mul_is x y f g))
 
-  pub neg-div : 0 < num y → neg x ⊘ y ≡ neg (x ⊘ y)
-  neg-div h =
+  pub neg_div : 0 < num y → neg x ⊘ y ≡ neg (x ⊘ y)
+  neg_div h =
       div_is (neg x) y (neg_finite x ∙ f) g h
       ∙ ap (λ (s : Bool). round binary64 (unlike s (negative y)) (num (neg x) * den y) (num y * den (neg x))) (neg_sign x f)
       ∙ ap (λ (n : ℕ). round binary64 (unlike (not (negative x)) (negative y)) (n * den y) (num y * den (neg x))) (neg_num x)
@@ -46,8 +46,8 @@ module _ (x y : Float) (f : finite_of x ≡ true) (g : finite_of y ≡ true) whe
       ∙ round_neg (unlike (negative x) (negative y)) (num x * den y) (num y * den x)
       ∙ ap neg (sym (div_is x y f g h))
 
-  pub mul-neg : x ⊗ neg y ≡ neg (x ⊗ y)
-  mul-neg =
+  pub mul_neg : x ⊗ neg y ≡ neg (x ⊗ y)
+  mul_neg =
       mul_is x (neg y) f (neg_finite y ∙ g)
       ∙ ap (λ (s : Bool). round binary64 (unlike (negative x) s) (num x * num (neg y)) (den x * den (neg y))) (neg_sign y g)
       ∙ ap (λ (n : ℕ). round binary64 (unlike (negative x) (not (negative y))) (num x * n) (den x * den (neg y))) (neg_num y)
@@ -57,11 +57,11 @@ module _ (x y : Float) (f : finite_of x ≡ true) (g : finite_of y ≡ true) whe
       ∙ ap neg (sym (mul_is x y f g))
 
 pub neg_mul_neg : (x y : Float) → finite_of x ≡ true → finite_of y ≡ true → neg x ⊗ neg y ≡ x ⊗ y
-neg_mul_neg x y f g = neg-mul x (neg y) f (neg_finite y ∙ g) ∙ ap neg (mul-neg x y f g) ∙ neg_neg (x ⊗ y)
+neg_mul_neg x y f g = neg_mul x (neg y) f (neg_finite y ∙ g) ∙ ap neg (mul_neg x y f g) ∙ neg_neg (x ⊗ y)
 
 -- x − (−y) is x + y, and x + (−y) is x − y.
-pub sub-neg : (x y : Float) → x ⊖ neg y ≡ x ⊕ y
-sub-neg x y = sub_is x (neg y) ∙ ap (λ (z : Float). x ⊕ z) (neg_neg y)
+pub sub_neg : (x y : Float) → x ⊖ neg y ≡ x ⊕ y
+sub_neg x y = sub_is x (neg y) ∙ ap (λ (z : Float). x ⊕ z) (neg_neg y)
 
 pub add_neg : (x y : Float) → x ⊕ neg y ≡ x ⊖ y
 add_neg x y = sym (sub_is x y)

@@ -1,6 +1,6 @@
 -- The bounds of every f64 in the problem of a question that no entrance check refuses: none of its square roots is
 -- refused, every f64 is finite, |L| is below 1, and the wanted time is above 0. Definitions only; proofs/Past.antt
--- shows that the bounds hold (`past-bounds`).
+-- shows that the bounds hold (`past_bounds`).
 use Rattle.std.specs.Prelude.{◌≡◌, true, List, ℕ, ◌^◌, Float}
 use Rattle.float64.specs.Notation.{◌⊖◌, ◌⊗◌, ◌⊘◌, ◌≺◌, 0F, 1F, 2F}
 use Rattle.float64.specs.Value.{finite_of, magnitude_of}

@@ -1,6 +1,6 @@
 -- Questions that the prover judges by computation, in addition to 01's worked cases. Each row of the table has the
 -- bytes of a question, the answer buffer's size, and the number given, which is 0 if the question is accepted. One
--- statement covers the whole table (`each-row-holds`).
+-- statement covers the whole table (`each_row_holds`).
 use mathlib.Core.Path.{◌≡◌, refl}
 use mathlib.Core.List.{List, [], ◌∷◌, ◌++◌, map}
 use Prim.Native.Nat.{ℕ, ◌-◌}
@@ -14,14 +14,15 @@ use Rattle.geometry.specs.Conditions.{outside_of, radius_outside, no_plane, shor
 use Rattle.little_endian.specs.Bytes.{bytes_of, number_at}
 use Rattle.records.specs.Layout.{answer_room, encode, question_fields}
 use Rattle.records.specs.Records.{question_of, question_bytes}
-use Rattle.entrance.specs.Conditions.{malformed, far_off, position_far, positions_far, mu_outside, time_outside, many_revolutions, small_buffer}
+use Rattle.entrance.specs.Conditions.{malformed, far_off, position_far, positions_far, mu_outside, time_outside, many_revolutions}
+use Rattle.entrance.specs.Conditions.{small_buffer}
 use Rattle.entrance.specs.Judge.{checks, first_of, judge_of}
 use Rattle.closed_case_laws.specs.Given.{HALF, ONE, TWO, flat, asked}
 use Rattle.entrance.specs.declared.Judged.{Judged}
 use Rattle.entrance.specs.declared.Judged.TheVariants.{Refused, Accepted}
 
 -- ---- further numbers, as bits
--- TINY is 2 ^ -11, P20 is 2 ^ 20 and so on, and P40-next is the next f64 above 2 ^ 40.
+-- TINY is 2 ^ -11, P20 is 2 ^ 20 and so on, and P40_next is the next f64 above 2 ^ 40.
 abbrev TINY : ℕ
 TINY = 0x3F40_0000_0000_0000
 
@@ -107,6 +108,7 @@ rows =
 pub each_row_holds : map (λ (r : Row). given (judge_of r.question r.room)) rows ≡ map (λ (r : Row). r.number) rows
 unfolding rows row asked worked from with_mu with_time with_revolutions_lem given judge_of checks first_of malformed far_off position_far
     positions_far mu_outside time_outside many_revolutions small_buffer question_of question_bytes encode question_fields bytes_of number_at
-    outside_of radius_outside no_plane short_chord flat_triangle shape_of triangle_of semiperimeter_of lambda_of at_least_zero or_nan root_or_nan
+    outside_of radius_outside no_plane short_chord flat_triangle shape_of triangle_of semiperimeter_of lambda_of at_least_zero or_nan
+    root_or_nan
     norm_squared difference cross root_of finite_of magnitude_of add sub mul div neg lt le eq of_bits to_bits
 each_row_holds = refl

@@ -1,5 +1,5 @@
 -- Roots that the prover computes, in addition to 01's worked cases. One statement covers the whole table
--- (`each-row-holds`).
+-- (`each_row_holds`).
 use mathlib.Core.Path.{◌≡◌, refl}
 use mathlib.Core.List.{List, [], ◌∷◌, map}
 use Prim.Native.Nat.{ℕ}

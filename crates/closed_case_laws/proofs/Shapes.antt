@@ -1,5 +1,5 @@
--- Shapes that the prover computes: which positions span a plane (`each-row-holds`), the sides of one triangle
--- (`right-triangle`), and the sign of L if L is zero (`long-way-ends`, `short-way-ends`).
+-- Shapes that the prover computes: which positions span a plane (`each_row_holds`), the sides of one triangle
+-- (`right_triangle`), and the sign of L if L is zero (`long_way_ends`, `short_way_ends`).
 use mathlib.Core.Path.{◌≡◌, refl}
 use mathlib.Core.Bool.{Bool, true, false}
 use mathlib.Core.List.{List, [], ◌∷◌, map}

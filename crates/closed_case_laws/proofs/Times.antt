@@ -1,5 +1,5 @@
 -- Times that the prover computes, in addition to 01's worked cases. Each row of the table has L, k, M and the expected
--- result, a time or void. One statement covers the whole table (`each-row-holds`).
+-- result, a time or void. One statement covers the whole table (`each_row_holds`).
 use mathlib.Core.Path.{◌≡◌, refl}
 use mathlib.Core.List.{List, [], ◌∷◌, map}
 use Prim.Native.Nat.{ℕ, ◌+◌, ◌-◌, ◌^◌}
@@ -62,7 +62,8 @@ rows =
     ∷ []
 
 pub each_row_holds : map (λ (r : Row). time_of (with_lambda r.L) r.k r.m) rows ≡ map (λ (r : Row). r.place) rows
-unfolding rows row with_lambda time_of outside_range x_of u_of y_of eta_of c1_of next_c half_angles_of ratio_of series_from series_of s4_of back_of
+unfolding rows row with_lambda time_of outside_range x_of u_of y_of eta_of c1_of next_c half_angles_of ratio_of series_from series_of
+    s4_of back_of
     g_of direct_of with_revolutions magnitude_of finite_of root_of add sub mul div neg lt eq of_bits of_int
 each_row_holds = refl
 
@@ -71,7 +72,7 @@ abbrev pub timed : Place → ℕ
 timed (Timed t) = 1
 timed (Void reason) = 0
 
--- The ends of the ranges of k, without whole revolutions and with sixteen. All of them have a time (`ends-are-timed`).
+-- The ends of the ranges of k, without whole revolutions and with sixteen. All of them have a time (`ends_are_timed`).
 -- The void places in these rows are placeholders that the statement does not use.
 pub ends : List Row
 ends =
@@ -79,6 +80,7 @@ ends =
     row 0 low 0 unused ∷ row 0 (pos (2 ^ 34)) 0 unused ∷ row 0 (pos (2 ^ 32 - 2 ^ 20)) 16 unused ∷ row 0 low 16 unused ∷ []
 
 pub ends_are_timed : map (λ (r : Row). timed (time_of (with_lambda r.L) r.k r.m)) ends ≡ 1 ∷ 1 ∷ 1 ∷ 1 ∷ []
-unfolding ends row with_lambda time_of outside_range x_of u_of y_of eta_of c1_of next_c half_angles_of ratio_of series_from series_of s4_of back_of g_of
+unfolding ends row with_lambda time_of outside_range x_of u_of y_of eta_of c1_of next_c half_angles_of ratio_of series_from series_of
+    s4_of back_of g_of
     direct_of with_revolutions magnitude_of finite_of root_of add sub mul div neg lt eq of_bits of_int
 ends_are_timed = refl

@@ -1,10 +1,10 @@
--- Reasons that the prover computes at single steps (`not_finite`, `steps-are-void`): no L, k and M are known for which the steps together
+-- Reasons that the prover computes at single steps (`not_finite`, `steps_are_void`): no L, k and M are known for which the steps together
 -- give a result that is not finite, or for which step 7 makes the place void. And what the sweep reports: for L = 1 the first station, for
--- reason 1 (`lambda-one`), and near L = −1 the second station, for reason 2 or 3 (`second-root`, `second-divisor`). And the numbers that
--- hosts in other languages get (`bits_are`, `report-is`, `refusal-12-is`).
+-- reason 1 (`lambda_one`), and near L = −1 the second station, for reason 2 or 3 (`second_root`, `second_divisor`). And the numbers that
+-- hosts in other languages get (`bits_are`, `report_is`, `refusal_12_is`).
 use mathlib.Core.Path.{◌≡◌, refl, ap, ◌∙◌}
 use mathlib.Core.Logic.{inl}
-use mathlib.Core.List.{List, [], ◌∷◌, map}
+use mathlib.Core.List.{[], ◌∷◌, map}
 use Prim.Native.Nat.{ℕ, ◌≤◌}
 use native.Mathlib.Omega.{arith}
 use lib.IntN.{ℤ, pos, neg_ℤ, ◌*ℤ◌}
@@ -17,11 +17,9 @@ use Rattle.hypergeometric.specs.Reasons.{reason_number}
 use Rattle.hypergeometric.specs.Steps.{y_of, eta_of, c1_of, next_c, half_angles_of, ratio_of, series_from, series_of, s4_of, back_of, g_of}
 use Rattle.hypergeometric.specs.declared.reasons.Reason.{Reason}
 use Rattle.hypergeometric.specs.declared.reasons.Reason.TheVariants.{OutsideRange, RefusedRoot, ZeroDivisor, NotFinite}
-use Rattle.hypergeometric.specs.declared.results.StepValue.{StepValue}
 use Rattle.hypergeometric.specs.declared.results.StepValue.TheVariants.{Void}
 use Rattle.flight_time.specs.Steps.{station_spacing, outside_range, x_of, u_of, direct_of, with_revolutions}
 use Rattle.flight_time.specs.Time.{if_finite, time_of, place_bits}
-use Rattle.flight_time.specs.declared.Place.{Place}
 use Rattle.flight_time.specs.declared.Place.TheVariants.{Timed, Void}
 use Rattle.stations.specs.declared.search.Search.{Search}
 use Rattle.stations.specs.Sides.{side_at}
@@ -33,7 +31,7 @@ use Rattle.sweep.specs.declared.walks.VoidStation.{VoidStation}
 use Rattle.sweep.proofs.Counts.{counted}
 use Rattle.sweep.specs.declared.walks.Walk.TheVariants.{SomeVoid}
 use Rattle.crossing_laws.proofs.AnyTriangle.{void_from_the_first, nothing_at_nan}
-use Rattle.crossing_laws.proofs.VoidStations.{station-exactly}
+use Rattle.crossing_laws.proofs.VoidStations.{station_exactly}
 use Rattle.crossing_laws.specs.FirstVoid.{IsFirstVoidStation}
 use Rattle.little_endian.specs.Bytes.{twos_complement}
 use Rattle.solver.specs.declared.Outcome.TheVariants.{RefusedVoid}
@@ -110,21 +108,25 @@ second_named L first reason timed void =
     record {
       index = 1;
       within = omega arith;
-      place_is = second-place;
+      place_is = second_place;
       void_is = void;
       lower = λ i h. let zero : i ≡ 0 = omega (arith, h) in (bits first, rw zero timed);
     } in
-    (station-exactly search station).1 (few, is_first)
+    (station_exactly search station).1 (few, is_first)
   where
-    second-place : station_of 1 ≡ neg_ℤ (pos 4094) *ℤ pos station_spacing
-    second-place = place_of_j 1 ∙ ap (λ (j : ℤ). j *ℤ pos station_spacing) (j_is_lem 1)
+    second_place : station_of 1 ≡ neg_ℤ (pos 4094) *ℤ pos station_spacing
+    second_place = place_of_j 1 ∙ ap (λ (j : ℤ). j *ℤ pos station_spacing) (j_is_lem 1)
 
-pub second_root : (sweep_for (search_at 0xBFEF_FFFF_FFFF_FEFF 0 nan)).walk ≡ SomeVoid (record { j = neg_ℤ (pos 4094); reason = RefusedRoot })
-unfolding with_lambda station_of time_of outside_range x_of u_of y_of eta_of c1_of next_c half_angles_of ratio_of series_from series_of s4_of back_of g_of
+pub second_root : (sweep_for (search_at 0xBFEF_FFFF_FFFF_FEFF 0 nan)).walk
+    ≡ SomeVoid (record { j = neg_ℤ (pos 4094); reason = RefusedRoot })
+unfolding with_lambda station_of time_of outside_range x_of u_of y_of eta_of c1_of next_c half_angles_of ratio_of series_from series_of
+    s4_of back_of g_of
     direct_of with_revolutions magnitude_of finite_of root_of add sub mul div neg lt eq of_bits of_int
 second_root = second_named 0xBFEF_FFFF_FFFF_FEFF 0xBD2F_55C2_423C_84B0 RefusedRoot refl refl
 
-pub second_divisor : (sweep_for (search_at 0xBFEF_FFFF_FFD9_9CCD 0 nan)).walk ≡ SomeVoid (record { j = neg_ℤ (pos 4094); reason = ZeroDivisor })
-unfolding with_lambda station_of time_of outside_range x_of u_of y_of eta_of c1_of next_c half_angles_of ratio_of series_from series_of s4_of back_of g_of
+pub second_divisor : (sweep_for (search_at 0xBFEF_FFFF_FFD9_9CCD 0 nan)).walk
+    ≡ SomeVoid (record { j = neg_ℤ (pos 4094); reason = ZeroDivisor })
+unfolding with_lambda station_of time_of outside_range x_of u_of y_of eta_of c1_of next_c half_angles_of ratio_of series_from series_of
+    s4_of back_of g_of
     direct_of with_revolutions magnitude_of finite_of root_of add sub mul div neg lt eq of_bits of_int
 second_divisor = second_named 0xBFEF_FFFF_FFD9_9CCD 0x3F1A_3A37_D421_2F16 ZeroDivisor refl refl

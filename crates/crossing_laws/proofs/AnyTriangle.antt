@@ -1,6 +1,6 @@
 -- What a sweep over any grid reports for searches that no question leads to: if L or the number of revolutions is outside the range of
--- step 1 of the time (`nothing-outside`, and `void-from-the-first` for the stations). If the wanted time is a NaN, no crossing is found
--- (`nothing-at-nan`). Also, a place whose side is known has a finite time (`known-finite`).
+-- step 1 of the time (`nothing_outside`, and `void_from_the_first` for the stations). If the wanted time is a NaN, no crossing is found
+-- (`nothing_at_nan`). Also, a place whose side is known has a finite time (`known_finite`).
 use mathlib.Core.Path.{◌≡◌, refl, subst}
 use mathlib.Core.Bool.{Bool, true, false, not, ◌||◌}
 use mathlib.Core.Logic.{◌⊎◌, ⊎_elim}
@@ -32,7 +32,7 @@ use Rattle.bisection.specs.Pairs.{crosses}
 use Rattle.sweep.specs.Crossings.{crossings, sweep_of, sweep_for}
 use Rattle.sweep.proofs.Counts.{counted}
 use Rattle.crossing_laws.proofs.FirstVoids.{clash}
-use Rattle.crossing_laws.proofs.Theorems.{none-exactly, void-exactly}
+use Rattle.crossing_laws.proofs.Theorems.{none_exactly, void_exactly}
 use Rattle.crossing_laws.proofs.Corners.{none_below, below_exactly}
 
 -- ---- the finite time of a place whose side is known
@@ -57,11 +57,11 @@ all_unknown : (σ : ℤ → Side) (g : Grid) (last : ℕ) (reason : Reason) → 
     ((sweep_of σ g last).count ≡ 0) × ((sweep_of σ g last).walk ≡ SomeVoid (record { j = j_of (g.place 0); reason = reason }))
 unfolding crosses
 all_unknown σ g last reason u =
-    let none : (sweep_of σ g last).count ≡ 0 = (none-exactly σ g last).1 (λ i h. rw (u (g.place i))) in
+    let none : (sweep_of σ g last).count ≡ 0 = (none_exactly σ g last).1 (λ i h. rw (u (g.place i))) in
     let few : length (crossings σ g last) ≤ 8 = omega (arith, none, counted σ g last) in
     let first : IsFirstVoid σ g last (record { j = j_of (g.place 0); reason = reason }) =
     record { index = 0; within = omega arith; j_is = refl; void_is = u (g.place 0); lower = λ i h. absurd (omega (arith, h)) } in
-    (none, (void-exactly σ g last _).1 (few, first))
+    (none, (void_exactly σ g last _).1 (few, first))
 
 or_true : (a b : Bool) → b ≡ true → a || b ≡ true
 or_true true b e = refl
@@ -101,13 +101,13 @@ none_below_nan (fin s m e) = refl
 pub nothing_at_nan : (s : Search) (g : Grid) (last : ℕ) → s.wanted ≡ nan → (sweep_of (side_at s) g last).count ≡ 0
 unfolding crosses side_at
 nothing_at_nan s g last e =
-    (none-exactly (side_at s) g last).1 (λ i h.
-    none_below (side_at s (g.place i)) (side_at s (g.place (i + 1))) (not-below (at i)) (not-below (at (i + 1))))
+    (none_exactly (side_at s) g last).1 (λ i h.
+    none_below (side_at s (g.place i)) (side_at s (g.place (i + 1))) (not_below (at i)) (not_below (at (i + 1))))
   where
     at : ℕ → Place
     at i = time_of s.triangle (g.place i) s.revolutions
 
-    not-below : (p : Place) → side_of p s.wanted ≡ Below → ⊥
-    not-below p h =
+    not_below : (p : Place) → side_of p s.wanted ≡ Below → ⊥
+    not_below p h =
         let b = (below_exactly p nan).0 (subst (λ (w : Float). side_of p w ≡ Below) e h) in
         clash b.1.1 (none_below_nan b.0)

@@ -1,4 +1,4 @@
--- The three sides as 01 defines them (`below-exactly`, `not-below-exactly`, `unknown-exactly`), and 01's corner cases of crossings. They
+-- The three sides as 01 defines them (`below_exactly`, `not_below_exactly`, `unknown_exactly`), and 01's corner cases of crossings. They
 -- hold for any time or void at each k, any wanted time and any grid.
 use mathlib.Core.Path.{◌≡◌, refl, sym, ap}
 use mathlib.Core.Bool.{Bool, true, false, cond}
@@ -18,7 +18,7 @@ use Rattle.stations.specs.Sides.{side_of, opposite, is_unknown}
 use Rattle.stations.specs.Grid.{Grid}
 use Rattle.bisection.specs.Pairs.{crosses}
 use Rattle.sweep.specs.Crossings.{sweep_of}
-use Rattle.crossing_laws.proofs.Theorems.{none-exactly}
+use Rattle.crossing_laws.proofs.Theorems.{none_exactly}
 
 -- ---- sides
 
@@ -97,40 +97,40 @@ module _ (τ : ℤ → Place) (w : Float) (g : Grid) where
   on_below : (i : ℕ) → IsBelow i → sides τ w (g.place i) ≡ Below
   on_below i h = (below_exactly (τ (g.place i)) w).1 h
 
-  on-above : (i : ℕ) → IsAbove i → sides τ w (g.place i) ≡ NotBelow
-  on-above i h = (not_below_exactly (τ (g.place i)) w).1 (h.0, (h.1.0, above_not_below h.0 w h.1.1))
+  on_above : (i : ℕ) → IsAbove i → sides τ w (g.place i) ≡ NotBelow
+  on_above i h = (not_below_exactly (τ (g.place i)) w).1 (h.0, (h.1.0, above_not_below h.0 w h.1.1))
 
-  on-equal : (i : ℕ) → IsEqual i → sides τ w (g.place i) ≡ NotBelow
-  on-equal i h = (not_below_exactly (τ (g.place i)) w).1 (h.0, (h.1.0, equal_not_below h.0 w h.1.1))
+  on_equal : (i : ℕ) → IsEqual i → sides τ w (g.place i) ≡ NotBelow
+  on_equal i h = (not_below_exactly (τ (g.place i)) w).1 (h.0, (h.1.0, equal_not_below h.0 w h.1.1))
 
   -- On a slope, a station with the time T* makes one crossing, not two.
-  pub rising-slope : (i : ℕ) → IsBelow i → IsEqual (i + 1) → IsAbove (i + 1 + 1) →
+  pub rising_slope : (i : ℕ) → IsBelow i → IsEqual (i + 1) → IsAbove (i + 1 + 1) →
       (crosses (sides τ w) g i ≡ true) × (crosses (sides τ w) g (i + 1) ≡ false)
   unfolding crosses
-  rising-slope i a b c = (rw (on_below i a, on-equal (i + 1) b), rw (on-equal (i + 1) b, on-above (i + 1 + 1) c))
+  rising_slope i a b c = (rw (on_below i a, on_equal (i + 1) b), rw (on_equal (i + 1) b, on_above (i + 1 + 1) c))
 
-  pub falling-slope : (i : ℕ) → IsAbove i → IsEqual (i + 1) → IsBelow (i + 1 + 1) →
+  pub falling_slope : (i : ℕ) → IsAbove i → IsEqual (i + 1) → IsBelow (i + 1 + 1) →
       (crosses (sides τ w) g i ≡ false) × (crosses (sides τ w) g (i + 1) ≡ true)
   unfolding crosses
-  falling-slope i a b c = (rw (on-above i a, on-equal (i + 1) b), rw (on-equal (i + 1) b, on_below (i + 1 + 1) c))
+  falling_slope i a b c = (rw (on_above i a, on_equal (i + 1) b), rw (on_equal (i + 1) b, on_below (i + 1 + 1) c))
 
   -- A dip that reaches T* but does not go below it makes no crossing.
-  pub touching-dip : (i : ℕ) → IsAbove i → IsEqual (i + 1) → IsAbove (i + 1 + 1) →
+  pub touching_dip : (i : ℕ) → IsAbove i → IsEqual (i + 1) → IsAbove (i + 1 + 1) →
       (crosses (sides τ w) g i ≡ false) × (crosses (sides τ w) g (i + 1) ≡ false)
   unfolding crosses
-  touching-dip i a b c = (rw (on-above i a, on-equal (i + 1) b), rw (on-equal (i + 1) b, on-above (i + 1 + 1) c))
+  touching_dip i a b c = (rw (on_above i a, on_equal (i + 1) b), rw (on_equal (i + 1) b, on_above (i + 1 + 1) c))
 
   -- A single station with the time T* between two stations below makes two crossings.
-  pub equal-between : (i : ℕ) → IsBelow i → IsEqual (i + 1) → IsBelow (i + 1 + 1) →
+  pub equal_between : (i : ℕ) → IsBelow i → IsEqual (i + 1) → IsBelow (i + 1 + 1) →
       (crosses (sides τ w) g i ≡ true) × (crosses (sides τ w) g (i + 1) ≡ true)
   unfolding crosses
-  equal-between i a b c = (rw (on_below i a, on-equal (i + 1) b), rw (on-equal (i + 1) b, on_below (i + 1 + 1) c))
+  equal_between i a b c = (rw (on_below i a, on_equal (i + 1) b), rw (on_equal (i + 1) b, on_below (i + 1 + 1) c))
 
   -- If the last station has the time T* and no station is below, there is no crossing.
-  pub equal-last : (last : ℕ) → IsEqual last → ((i : ℕ) → i ≤ last → IsBelow i → ⊥) → (sweep_of (sides τ w) g last).count ≡ 0
+  pub equal_last : (last : ℕ) → IsEqual last → ((i : ℕ) → i ≤ last → IsBelow i → ⊥) → (sweep_of (sides τ w) g last).count ≡ 0
   unfolding crosses
-  equal-last last e f =
-      (none-exactly (sides τ w) g last).1 (λ i h.
+  equal_last last e f =
+      (none_exactly (sides τ w) g last).1 (λ i h.
       none_below (sides τ w (g.place i)) (sides τ w (g.place (i + 1)))
       (λ a. f i (omega (arith, h)) ((below_exactly (τ (g.place i)) w).0 a))
       (λ b. f (i + 1) (omega (arith, h)) ((below_exactly (τ (g.place (i + 1))) w).0 b)))

@@ -1,4 +1,4 @@
--- If a place has a time, that time is finite (`timed-finite`), never an infinity or a NaN. The proof follows the steps of `time_of`. The
+-- If a place has a time, that time is finite (`timed_finite`), never an infinity or a NaN. The proof follows the steps of `time_of`. The
 -- last step makes the place void if its time is not finite.
 use Prim.Native.Nat.{ℕ}
 use mathlib.Core.Path.{◌≡◌, refl, subst}

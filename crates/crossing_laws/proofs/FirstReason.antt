@@ -1,5 +1,5 @@
--- `time_of` gives the same place as the list of tests (`first-reason`). So a place is void for a reason exactly if the first test that
--- applies has that reason (`void-first`), and it has a time exactly if no test applies (`timed-none`).
+-- `time_of` gives the same place as the list of tests (`first_reason`). So a place is void for a reason exactly if the first test that
+-- applies has that reason (`void_first`), and it has a time exactly if no test applies (`timed_none`).
 -- The steps are followed from the last to the first. The invariant is that the steps that remain give the same place as the tests that
 -- remain. The lemma of a step takes this for what follows the step, and shows it with the test of the step in front.
 use Prim.Native.Nat.{ℕ, zero, suc}
@@ -124,22 +124,22 @@ unfolding half_angles_of angle_numbers
 angles_step L x u rest e =
     let a = angle_numbers L x u in
     let from-w3 = root_step (root_of a.c3) (known a.eta a.w1 a.w2) rest e in
-    let from-w2 = root_step (root_of a.c2) (after-w2 a.eta a.w1) rest from-w3 in
-    let from-w1 = root_step (root_of a.c1) (after-w1 a.eta) rest from-w2 in
-    root_step (y_of L u) after-y rest from-w1
+    let from-w2 = root_step (root_of a.c2) (after_w2 a.eta a.w1) rest from-w3 in
+    let from-w1 = root_step (root_of a.c1) (after_w1 a.eta) rest from-w2 in
+    root_step (y_of L u) after_y rest from-w1
   where
     -- The steps after the root w3, and those after w2, w1 and y.
     known : Float → Float → Float → Float → HalfAngles
     known η w1 w2 w3 = Known (record { eta = η; c1 = c1_of L x η; w1 = w1; c2 = next_c w1; w2 = w2; c3 = next_c w2; w3 = w3 })
 
-    after-w2 : Float → Float → Float → HalfAngles
-    after-w2 η w1 w2 = angles_after_root (root_of (next_c w2)) (known η w1 w2)
+    after_w2 : Float → Float → Float → HalfAngles
+    after_w2 η w1 w2 = angles_after_root (root_of (next_c w2)) (known η w1 w2)
 
-    after-w1 : Float → Float → HalfAngles
-    after-w1 η w1 = angles_after_root (root_of (next_c w1)) (after-w2 η w1)
+    after_w1 : Float → Float → HalfAngles
+    after_w1 η w1 = angles_after_root (root_of (next_c w1)) (after_w2 η w1)
 
-    after-y : Float → HalfAngles
-    after-y y = let η = eta_of L x y in angles_after_root (root_of (c1_of L x η)) (after-w1 η)
+    after_y : Float → HalfAngles
+    after_y y = let η = eta_of L x y in angles_after_root (root_of (c1_of L x η)) (after_w1 η)
 
 -- ---- step 5
 -- The two divisors of one n.
@@ -161,17 +161,17 @@ g_step a rest e =
     let g3 = back_number g4 a.w3 a.c3 in
     let g2 = back_number g3 a.w2 a.c2 in
     let back1 = back_step g2 a.w1 a.c1 rest e in
-    let back2 = back_step g3 a.w2 a.c2 (λ g. after_step (after-g2 g) rest) back1 in
-    let from-g3 = then_step (back_of g3 a.w2 a.c2) after-g2 rest back2 in
-    let back3 = back_step g4 a.w3 a.c3 (λ g. after_step (after-g3 g) rest) from-g3 in
-    then_step (back_of g4 a.w3 a.c3) after-g3 rest back3
+    let back2 = back_step g3 a.w2 a.c2 (λ g. after_step (after_g2 g) rest) back1 in
+    let from-g3 = then_step (back_of g3 a.w2 a.c2) after_g2 rest back2 in
+    let back3 = back_step g4 a.w3 a.c3 (λ g. after_step (after_g3 g) rest) from-g3 in
+    then_step (back_of g4 a.w3 a.c3) after_g3 rest back3
   where
     -- The steps after n = 2, and those after n = 3.
-    after-g2 : Float → StepValue
-    after-g2 g2 = back_of g2 a.w1 a.c1
+    after_g2 : Float → StepValue
+    after_g2 g2 = back_of g2 a.w1 a.c1
 
-    after-g3 : Float → StepValue
-    after-g3 g3 = then (back_of g3 a.w2 a.c2) after-g2
+    after_g3 : Float → StepValue
+    after_g3 g3 = then (back_of g3 a.w2 a.c2) after_g2
 
 -- ---- step 7
 revolving_step : (direct u : Float) (m : ℕ) (rest : Float → Place) (tests : List Test) (time : Float) →
@@ -181,10 +181,10 @@ unfolding with_revolutions revolved_number revolving_divisor revolving_tests pla
 revolving_step direct u zero rest tests time e = e
 revolving_step direct u (suc m) rest tests time e =
     let divided = dividing_step (revolving_divisor u) (Number (revolved_number direct u (suc m))) rest e in
-    rw (eqb-suc-zero m) (revolving_root_step (root_of u) after-root rest divided)
+    rw (eqb-suc-zero m) (revolving_root_step (root_of u) after_root_lem rest divided)
   where
-    after-root : Float → StepValue
-    after-root root = dividing (u ⊗ root) (Number (direct ⊕ (float (pos (suc m)) ⊗ πF) ⊘ (u ⊗ root)))
+    after_root_lem : Float → StepValue
+    after_root_lem root = dividing (u ⊗ root) (Number (direct ⊕ (float (pos (suc m)) ⊗ πF) ⊘ (u ⊗ root)))
 
 -- ---- all steps
 pub first_reason : (t : Triangle) (k : ℤ) (revolutions : ℕ) →
@@ -198,20 +198,20 @@ first_reason t k revolutions =
     let direct = direct_of L a.eta (g_number a) in
     let time = time_number t k revolutions in
     let finite = test_step (finite_test time) refl in
-    let revolved = revolving_step direct u revolutions after-time (finite_test time ∷ []) time finite in
-    let undone = g_step a (after-g a) revolved in
-    let angles = angles_step L x u after-angles undone in
+    let revolved = revolving_step direct u revolutions after_time (finite_test time ∷ []) time finite in
+    let undone = g_step a (after_g a) revolved in
+    let angles = angles_step L x u after_angles_lem undone in
     test_step (range_test L k revolutions) angles
   where
     -- The steps after the time is known, and those after G and the angles.
-    after-time : Float → Place
-    after-time time = void_if (not (finite_of time)) NotFinite (Timed time)
+    after_time : Float → Place
+    after_time time = void_if (not (finite_of time)) NotFinite (Timed time)
 
-    after-g : Angles → Float → Place
-    after-g a g = after_step (with_revolutions (direct_of t.lambda a.eta g) (u_of (x_of k)) revolutions) after-time
+    after_g : Angles → Float → Place
+    after_g a g = after_step (with_revolutions (direct_of t.lambda a.eta g) (u_of (x_of k)) revolutions) after_time
 
-    after-angles : Angles → Place
-    after-angles a = after_step (g_of a) (after-g a)
+    after_angles_lem : Angles → Place
+    after_angles_lem a = after_step (g_of a) (after_g a)
 
 -- ---- the first test that applies, for any list of tests
 module _ (time : Float) where
@@ -231,10 +231,10 @@ module _ (time : Float) where
   void_by (here a e) = rw a (ap Void e)
   void_by (later a f) = rw a (void_by f)
 
-  none-by : (tests : List Test) (other : Float) → place_after tests time ≡ Timed other → NoneApplies tests
+  none_by : (tests : List Test) (other : Float) → place_after tests time ≡ Timed other → NoneApplies tests
   unfolding place_after
-  none-by [] other e = empty
-  none-by (test ∷ others) other e = by (none-by others other) test.applies refl e
+  none_by [] other e = empty
+  none_by (test ∷ others) other e = by (none_by others other) test.applies refl e
     where
       by : (place_after others time ≡ Timed other → NoneApplies others) →
           (b : Bool) → test.applies ≡ b → cond b (Void test.reason) (place_after others time) ≡ Timed other →
@@ -242,10 +242,10 @@ module _ (time : Float) where
       by rest true a v = absurd (let z : ◌≡◌ {A = ℕ} 0 1 = cc v in omega (arith, z))
       by rest false a v = nor a (rest v)
 
-  timed-by : {tests : List Test} → NoneApplies tests → place_after tests time ≡ Timed time
+  timed_by : {tests : List Test} → NoneApplies tests → place_after tests time ≡ Timed time
   unfolding place_after
-  timed-by empty = refl
-  timed-by (nor a n) = rw a (timed-by n)
+  timed_by empty = refl
+  timed_by (nor a n) = rw a (timed_by n)
 
 -- ---- what this says about a place
 -- A place is void for a reason exactly if the first test that applies has this reason.
@@ -264,4 +264,4 @@ timed_none t k revolutions =
     let tests = tests_of t k revolutions in
     let time = time_number t k revolutions in
     let same = first_reason t k revolutions in
-    (λ timed. none-by time tests timed.0 (sym same ∙ timed.1), λ n. (time, same ∙ timed-by time n))
+    (λ timed. none_by time tests timed.0 (sym same ∙ timed.1), λ n. (time, same ∙ timed_by time n))

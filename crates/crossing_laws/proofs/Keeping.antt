@@ -1,11 +1,11 @@
--- The list `up_to n` holds exactly the numbers below n, and it rises (`listed-up`, `up-listed`, `rising-up`). `keep` takes exactly the
--- numbers of a list that pass a test (`kept`, `keeps`), and its result rises if the list does (`rising-keep`). `some` says whether some
--- number passes (`some-yes`, `some-found`).
+-- The list `up_to n` holds exactly the numbers below n, and it rises (`listed_up`, `up_listed`, `rising_up`). `keep` takes exactly the
+-- numbers of a list that pass a test (`kept`, `keeps`), and its result rises if the list does (`rising_keep`). `some` says whether some
+-- number passes (`some_yes`, `some_found`).
 use mathlib.Core.Path.{◌≡◌, refl, sym, ap, ◌∙◌, subst}
 use mathlib.Core.Bool.{Bool, true, false, cond, ◌||◌}
 use mathlib.Core.Logic.{◌⊎◌, inl, inr, ⊎_elim}
 use mathlib.Core.List.{List, [], ◌∷◌, ◌++◌}
-use Prim.Native.Nat.{ℕ, zero, suc, ◌+◌, ◌<◌}
+use Prim.Native.Nat.{ℕ, zero, suc, ◌<◌}
 use native.Mathlib.Omega.{arith}
 use native.Mathlib.Nat.{eq-or-lt_of_le}
 use Rattle.sweep.specs.Crossings.{up_to, keep, some}
@@ -75,27 +75,27 @@ module _ (p : ℕ → Bool) where
   kept i [] h = absurd h
   kept i (x ∷ xs) h = kept_by (p x) i x xs refl (kept i xs) h
 
-  keeps-by : (b : Bool) (i x : ℕ) (xs : List ℕ) → p x ≡ b → p i ≡ true → (Listed i xs → Listed i (keep p xs)) →
+  keeps_by : (b : Bool) (i x : ℕ) (xs : List ℕ) → p x ≡ b → p i ≡ true → (Listed i xs → Listed i (keep p xs)) →
       Listed i (x ∷ xs) → Listed i (cond b (x ∷ keep p xs) (keep p xs))
   unfolding Listed
-  keeps-by true i x xs e y f h = ⊎_elim (λ d. inl d) (λ l. inr (f l)) h
-  keeps-by false i x xs e y f h = ⊎_elim (λ d. absurd (let z : ◌≡◌ {A = ℕ} 0 1 = cc (ap p d, e, y) in omega (arith, z))) (λ l. f l) h
+  keeps_by true i x xs e y f h = ⊎_elim (λ d. inl d) (λ l. inr (f l)) h
+  keeps_by false i x xs e y f h = ⊎_elim (λ d. absurd (let z : ◌≡◌ {A = ℕ} 0 1 = cc (ap p d, e, y) in omega (arith, z))) (λ l. f l) h
 
   pub keeps : (i : ℕ) (xs : List ℕ) → p i ≡ true → Listed i xs → Listed i (keep p xs)
   unfolding keep Listed
   keeps i [] y h = absurd h
-  keeps i (x ∷ xs) y h = keeps-by (p x) i x xs refl y (keeps i xs y) h
+  keeps i (x ∷ xs) y h = keeps_by (p x) i x xs refl y (keeps i xs y) h
 
-  rising-by : (b : Bool) (x : ℕ) (xs : List ℕ) → ((i : ℕ) → Listed i xs → x < i) → Rising (keep p xs) →
+  rising_by : (b : Bool) (x : ℕ) (xs : List ℕ) → ((i : ℕ) → Listed i xs → x < i) → Rising (keep p xs) →
       Rising (cond b (x ∷ keep p xs) (keep p xs))
   unfolding Rising
-  rising-by true x xs f r = ((λ i h. f i (kept i xs h).0), r)
-  rising-by false x xs f r = r
+  rising_by true x xs f r = ((λ i h. f i (kept i xs h).0), r)
+  rising_by false x xs f r = r
 
-  pub rising-keep : (xs : List ℕ) → Rising xs → Rising (keep p xs)
+  pub rising_keep : (xs : List ℕ) → Rising xs → Rising (keep p xs)
   unfolding keep Rising
-  rising-keep [] r = tt
-  rising-keep (x ∷ xs) r = rising-by (p x) x xs r.0 (rising-keep xs r.1)
+  rising_keep [] r = tt
+  rising_keep (x ∷ xs) r = rising_by (p x) x xs r.0 (rising_keep xs r.1)
 
   -- ---- whether some number passes a test
 
@@ -107,19 +107,19 @@ module _ (p : ℕ → Bool) where
   or_right true c e = refl
   or_right false c e = e
 
-  pub some-yes : (i : ℕ) (xs : List ℕ) → Listed i xs → p i ≡ true → some p xs ≡ true
+  pub some_yes : (i : ℕ) (xs : List ℕ) → Listed i xs → p i ≡ true → some p xs ≡ true
   unfolding some Listed
-  some-yes i [] h y = absurd h
-  some-yes i (x ∷ xs) h y =
-      ⊎_elim (λ e. or_left (p x) (some p xs) (ap p (sym e) ∙ y)) (λ l. or_right (p x) (some p xs) (some-yes i xs l y)) h
+  some_yes i [] h y = absurd h
+  some_yes i (x ∷ xs) h y =
+      ⊎_elim (λ e. or_left (p x) (some p xs) (ap p (sym e) ∙ y)) (λ l. or_right (p x) (some p xs) (some_yes i xs l y)) h
 
-  found-by : (b : Bool) (x : ℕ) (xs : List ℕ) → p x ≡ b → (some p xs ≡ true → (i : ℕ) × (Listed i xs × (p i ≡ true))) →
+  found_by : (b : Bool) (x : ℕ) (xs : List ℕ) → p x ≡ b → (some p xs ≡ true → (i : ℕ) × (Listed i xs × (p i ≡ true))) →
       b || some p xs ≡ true → (i : ℕ) × (Listed i (x ∷ xs) × (p i ≡ true))
   unfolding Listed
-  found-by true x xs e f h = (x, (inl refl, e))
-  found-by false x xs e f h = ((f h).0, (inr (f h).1.0, (f h).1.1))
+  found_by true x xs e f h = (x, (inl refl, e))
+  found_by false x xs e f h = ((f h).0, (inr (f h).1.0, (f h).1.1))
 
-  pub some-found : (xs : List ℕ) → some p xs ≡ true → (i : ℕ) × (Listed i xs × (p i ≡ true))
+  pub some_found : (xs : List ℕ) → some p xs ≡ true → (i : ℕ) × (Listed i xs × (p i ≡ true))
   unfolding some Listed
-  some-found [] h = absurd (let z : ◌≡◌ {A = ℕ} 0 1 = cc h in omega (arith, z))
-  some-found (x ∷ xs) h = found-by (p x) x xs refl (some-found xs) h
+  some_found [] h = absurd (let z : ◌≡◌ {A = ℕ} 0 1 = cc h in omega (arith, z))
+  some_found (x ∷ xs) h = found_by (p x) x xs refl (some_found xs) h

@@ -1,5 +1,5 @@
 -- The theorems about a sweep, stated so that a reader can compare them with 01. They hold for any sides of the places, any grid, and its
--- places from 0 to `last`. The theorems about brackets are `bracket-holds` and `only_one` in BracketLaws.
+-- places from 0 to `last`. The theorems about brackets are `bracket_holds` and `only_one` in BracketLaws.
 use mathlib.Core.Path.{◌≡◌, refl, sym, ap, ◌∙◌, subst}
 use mathlib.Core.Bool.{Bool, true, false}
 use mathlib.Core.Logic.{inl, inr, ⊎_elim, ◌↔◌}
@@ -24,16 +24,16 @@ use Rattle.stations.specs.Sides.{opposite, is_unknown}
 use Rattle.stations.specs.Grid.{Grid, IsRising}
 use Rattle.stations.specs.Stations.{station_of, last_of}
 use Rattle.bisection.specs.Pairs.{crosses, bracket_of}
-use Rattle.sweep.specs.Crossings.{up_to, some, crossings, some_void, brackets, blank, reported, sweep_of}
+use Rattle.sweep.specs.Crossings.{up_to, crossings, some_void, brackets, blank, reported, sweep_of}
 use Rattle.sweep.specs.Walks.{first_void, walk_of}
 use Rattle.sweep.proofs.Counts.{length_is, counted}
 use Rattle.crossing_laws.specs.FirstVoid.{IsFirstVoid}
 use Rattle.crossing_laws.specs.Listed.{Listed, Rising}
-use Rattle.crossing_laws.proofs.FirstVoids.{clash, never-ninth, names-exactly, all-exactly}
+use Rattle.crossing_laws.proofs.FirstVoids.{clash, never_ninth, names_exactly, all_exactly}
 use Rattle.bisection.proofs.Halving.{same_side, lower_known, upper_known}
 use Rattle.stations.proofs.Places.{next_station}
 use Rattle.crossing_laws.proofs.BracketLaws.{bracket_holds}
-use Rattle.crossing_laws.proofs.Keeping.{listed_up, up_listed, rising_up, kept, keeps, rising-keep, some-yes, some-found}
+use Rattle.crossing_laws.proofs.Keeping.{listed_up, up_listed, rising_up, kept, keeps, rising_keep, some_yes, some_found}
 
 -- ---- stations: j from −4095, 2^20 apart, to 16384 for M = 0 and to 4095 for M ≥ 1
 
@@ -186,9 +186,9 @@ pairs_rise σ g r i j l p q =
 
 module _ (σ : ℤ → Side) (g : Grid) (last : ℕ) where
   -- A pair is in the list of crossings exactly if it is among the places up to `last` and crosses.
-  pub listed-exactly : (i : ℕ) → Listed i (crossings σ g last) ↔ ((i < last) × (crosses σ g i ≡ true))
+  pub listed_exactly : (i : ℕ) → Listed i (crossings σ g last) ↔ ((i < last) × (crosses σ g i ≡ true))
   unfolding crossings
-  listed-exactly i = (
+  listed_exactly i = (
     λ h. (listed_up i last (kept (crosses σ g) i (up_to last) h).0, (kept (crosses σ g) i (up_to last) h).1),
     λ h. keeps (crosses σ g) i (up_to last) h.1 (up_listed i last h.0),
   )
@@ -196,7 +196,7 @@ module _ (σ : ℤ → Side) (g : Grid) (last : ℕ) where
   -- The list of crossings rises.
   pub rises : Rising (crossings σ g last)
   unfolding crossings
-  rises = rising-keep (crosses σ g) (up_to last) (rising_up last)
+  rises = rising_keep (crosses σ g) (up_to last) (rising_up last)
 
   -- The count is the number of crossings, but at most eight. There are as many brackets as crossings.
   count_is : (sweep_of σ g last).count ≡ min 8 (length (crossings σ g last))
@@ -206,9 +206,9 @@ module _ (σ : ℤ → Side) (g : Grid) (last : ℕ) where
   as_many = length_is σ g last
 
   -- The list has eight elements. The used ones hold the brackets of the crossings in their order, and the others hold zeros.
-  pub eight-places : length (sweep_of σ g last).list ≡ 8
+  pub eight_places : length (sweep_of σ g last).list ≡ 8
   unfolding sweep_of reported
-  eight-places =
+  eight_places =
       let t = take 8 (brackets σ g last) in
       length-append t (replicate (8 - length t) blank)
       ∙ ap (λ (k : ℕ). length t + k) (length-replicate (8 - length t) blank)
@@ -233,57 +233,57 @@ module _ (σ : ℤ → Side) (g : Grid) (last : ℕ) where
       padded used (8 - length used) e (rw (length-take 8 (brackets σ g last)) h)
 
   -- Every used element holds the bracket of a pair that crosses. If there are at most eight crossings, each of them has its element.
-  pub only-crossings : (e : ℕ) → e < (sweep_of σ g last).count →
+  pub only_crossings : (e : ℕ) → e < (sweep_of σ g last).count →
       (i : ℕ) × ((i < last) × (crosses σ g i ≡ true) × (get_or (sweep_of σ g last).list e blank ≡ bracket_of σ g i))
-  only-crossings e h =
+  only_crossings e h =
       let i = get_or (crossings σ g last) e 0 in
       let l : e < length (crossings σ g last) = omega (arith, h, count_is) in
-      let c = (listed-exactly i).0 (listed_at e (crossings σ g last) l) in
+      let c = (listed_exactly i).0 (listed_at e (crossings σ g last) l) in
       (i, (c.0, c.1, in_order e h))
 
-  pub every-crossing : length (crossings σ g last) ≤ 8 → (i : ℕ) → i < last → crosses σ g i ≡ true →
+  pub every_crossing : length (crossings σ g last) ≤ 8 → (i : ℕ) → i < last → crosses σ g i ≡ true →
       (e : ℕ) × ((e < (sweep_of σ g last).count) × (get_or (sweep_of σ g last).list e blank ≡ bracket_of σ g i))
-  every-crossing few i h y =
-      let p = at_listed i (crossings σ g last) ((listed-exactly i).1 (h, y)) in
+  every_crossing few i h y =
+      let p = at_listed i (crossings σ g last) ((listed_exactly i).1 (h, y)) in
       let b : p.0 < (sweep_of σ g last).count = rw count_is (omega (arith, p.1.0, few)) in
       (p.0, (b, in_order p.0 b ∙ ap (bracket_of σ g) p.1.1))
 
   -- If the grid rises, the elements of the list rise in x: the upper end of one is at most the lower end of any later one.
-  pub places-rise : IsRising g → (e f : ℕ) → e < f → f < (sweep_of σ g last).count →
+  pub places_rise : IsRising g → (e f : ℕ) → e < f → f < (sweep_of σ g last).count →
       (d : ℕ) × ((get_or (sweep_of σ g last).list f blank).lower ≡ (get_or (sweep_of σ g last).list e blank).upper +ℤ pos d)
-  places-rise w e f l h =
+  places_rise w e f l h =
       let all = crossings σ g last in
       let i = get_or all e 0 in
       let j = get_or all f 0 in
       let k : f < length all = omega (arith, h, count_is) in
       let near : e < length all = omega (arith, l, k) in
       let lower : e < (sweep_of σ g last).count = omega (arith, l, h) in
-      let first = ((listed-exactly i).0 (listed_at e all near)).1 in
-      let second = ((listed-exactly j).0 (listed_at f all k)).1 in
+      let first = ((listed_exactly i).0 (listed_at e all near)).1 in
+      let second = ((listed_exactly j).0 (listed_at f all k)).1 in
       let r = pairs_rise σ g w i j (rising_at e f all rises l k) first second in
       (r.0, rw (in_order e lower, in_order f h) r.1)
 
   -- `NinthFound` is reported exactly if there are more than eight crossings.
-  pub ninth-exactly : ((sweep_of σ g last).walk ≡ NinthFound) ↔ (8 < length (crossings σ g last))
+  pub ninth_exactly : ((sweep_of σ g last).walk ≡ NinthFound) ↔ (8 < length (crossings σ g last))
   unfolding sweep_of reported
-  ninth-exactly = (
+  ninth_exactly = (
     λ e. subst (λ (n : ℕ). 8 < n) as_many (ltb-true 8 (length (brackets σ g last)) (by (ltb 8 (length (brackets σ g last))) e)),
     λ h. rw (as_many, lt-ltb 8 (length (crossings σ g last)) h),
   )
     where
       by : (b : Bool) → walk_of b (first_void σ g (up_to (last + 1))) ≡ NinthFound → b ≡ true
       by true e = refl
-      by false e = never-ninth σ g last e
+      by false e = never_ninth σ g last e
 
   -- `some_void` is true exactly if some place from 0 to `last` is void.
-  pub void-at : (i : ℕ) → i ≤ last → is_unknown (σ (g.place i)) ≡ true → some_void σ g last ≡ true
+  pub void_at_lem : (i : ℕ) → i ≤ last → is_unknown (σ (g.place i)) ≡ true → some_void σ g last ≡ true
   unfolding some_void
-  void-at i h e = some-yes (λ j. is_unknown (σ (g.place j))) i (up_to (last + 1)) (up_listed i (last + 1) (omega arith)) e
+  void_at_lem i h e = some_yes (λ j. is_unknown (σ (g.place j))) i (up_to (last + 1)) (up_listed i (last + 1) (omega arith)) e
 
-  pub at-void : some_void σ g last ≡ true → (i : ℕ) × ((i ≤ last) × (is_unknown (σ (g.place i)) ≡ true))
+  pub at_void : some_void σ g last ≡ true → (i : ℕ) × ((i ≤ last) × (is_unknown (σ (g.place i)) ≡ true))
   unfolding some_void
-  at-void e =
-      let f = some-found (λ j. is_unknown (σ (g.place j))) (up_to (last + 1)) e in
+  at_void e =
+      let f = some_found (λ j. is_unknown (σ (g.place j))) (up_to (last + 1)) e in
       let k : f.0 < last + 1 = listed_up f.0 (last + 1) f.1.0 in
       (f.0, (omega (arith, k), f.1.1))
 
@@ -294,37 +294,37 @@ module _ (σ : ℤ → Side) (g : Grid) (last : ℕ) where
   few e = subst (λ (n : ℕ). n ≤ 8) as_many (ltb-false 8 (length (brackets σ g last)) e)
 
   -- `SomeVoid` is reported exactly if there are at most eight crossings and some place is void, and it names the first void one.
-  pub void-exactly : (station : VoidStation) →
+  pub void_exactly : (station : VoidStation) →
       ((sweep_of σ g last).walk ≡ SomeVoid station) ↔ ((length (crossings σ g last) ≤ 8) × IsFirstVoid σ g last station)
   unfolding sweep_of reported
-  void-exactly station = (
+  void_exactly station = (
     λ e.
-        let t = walk_by (first_void σ g (up_to (last + 1))) (SomeVoid station) ninth e void-not-ninth in
-        (few t.0, (names-exactly σ g last station).0 t.1),
-    λ h. rw (as_many, le-ltb 8 (length (crossings σ g last)) h.0) ((names-exactly σ g last station).1 h.1),
+        let t = walk_by (first_void σ g (up_to (last + 1))) (SomeVoid station) ninth e void_not_ninth in
+        (few t.0, (names_exactly σ g last station).0 t.1),
+    λ h. rw (as_many, le-ltb 8 (length (crossings σ g last)) h.0) ((names_exactly σ g last station).1 h.1),
   )
     where
-      void-not-ninth : SomeVoid station ≡ NinthFound → ⊥
-      void-not-ninth e = let z : ◌≡◌ {A = ℕ} 0 1 = cc e in omega (arith, z)
+      void_not_ninth : SomeVoid station ≡ NinthFound → ⊥
+      void_not_ninth e = let z : ◌≡◌ {A = ℕ} 0 1 = cc e in omega (arith, z)
 
   -- `AllTimed` is reported exactly if there are at most eight crossings and every place has a time.
-  pub timed-exactly : ((sweep_of σ g last).walk ≡ AllTimed)
+  pub timed_exactly : ((sweep_of σ g last).walk ≡ AllTimed)
       ↔ ((length (crossings σ g last) ≤ 8) × ((i : ℕ) → i ≤ last → is_unknown (σ (g.place i)) ≡ false))
   unfolding sweep_of reported
-  timed-exactly = (
+  timed_exactly = (
     λ e.
-        let t = walk_by (first_void σ g (up_to (last + 1))) AllTimed ninth e timed-not-ninth in
-        (few t.0, (all-exactly σ g last).0 t.1),
-    λ h. rw (as_many, le-ltb 8 (length (crossings σ g last)) h.0) ((all-exactly σ g last).1 h.1),
+        let t = walk_by (first_void σ g (up_to (last + 1))) AllTimed ninth e timed_not_ninth in
+        (few t.0, (all_exactly σ g last).0 t.1),
+    λ h. rw (as_many, le-ltb 8 (length (crossings σ g last)) h.0) ((all_exactly σ g last).1 h.1),
   )
     where
-      timed-not-ninth : AllTimed ≡ NinthFound → ⊥
-      timed-not-ninth e = let z : ◌≡◌ {A = ℕ} 0 1 = cc e in omega (arith, z)
+      timed_not_ninth : AllTimed ≡ NinthFound → ⊥
+      timed_not_ninth e = let z : ◌≡◌ {A = ℕ} 0 1 = cc e in omega (arith, z)
 
-  empty-by : (xs : List ℕ) → ((i : ℕ) → Listed i xs → ⊥) → length xs ≡ 0
+  empty_by : (xs : List ℕ) → ((i : ℕ) → Listed i xs → ⊥) → length xs ≡ 0
   unfolding Listed
-  empty-by [] f = refl
-  empty-by (x ∷ xs) f = absurd (f x (inl refl))
+  empty_by [] f = refl
+  empty_by (x ∷ xs) f = absurd (f x (inl refl))
 
   not_listed : (i : ℕ) (xs : List ℕ) → length xs ≡ 0 → Listed i xs → ⊥
   unfolding Listed
@@ -332,14 +332,14 @@ module _ (σ : ℤ → Side) (g : Grid) (last : ℕ) where
   not_listed i (x ∷ xs) e h = omega (arith, e)
 
   -- The count is 0 exactly if no pair crosses.
-  pub none-exactly : ((sweep_of σ g last).count ≡ 0) ↔ ((i : ℕ) → i < last → crosses σ g i ≡ false)
-  none-exactly = (
+  pub none_exactly : ((sweep_of σ g last).count ≡ 0) ↔ ((i : ℕ) → i < last → crosses σ g i ≡ false)
+  none_exactly = (
     λ e i h.
         let z : length (crossings σ g last) ≡ 0 = omega (arith, count_is, e) in
-        false_by (crosses σ g i) (λ y. not_listed i (crossings σ g last) z ((listed-exactly i).1 (h, y))),
+        false_by (crosses σ g i) (λ y. not_listed i (crossings σ g last) z ((listed_exactly i).1 (h, y))),
     λ f.
         let none : (i : ℕ) → Listed i (crossings σ g last) → ⊥ =
-        λ i h. let c = (listed-exactly i).0 h in clash c.1 (f i c.0) in
-        let z : length (crossings σ g last) ≡ 0 = empty-by (crossings σ g last) none in
+        λ i h. let c = (listed_exactly i).0 h in clash c.1 (f i c.0) in
+        let z : length (crossings σ g last) ≡ 0 = empty_by (crossings σ g last) none in
         omega (arith, count_is, z),
   )

@@ -1,7 +1,7 @@
 -- Streams fed in pieces, computed by the prover: 01's worked question cut in two, with an empty piece between, and the start of another
--- question after it (`question-cut`); that question followed by a refused length, which is cut in two (`length_cut`); a question with
--- other faults (`fault-given-out`); a bad length of which three of four bytes have arrived (`not-judged-early`), and one of which all
--- four have (`judged-at-once`).
+-- question after it (`question_cut`); that question followed by a refused length, which is cut in two (`length_cut`); a question with
+-- other faults (`fault_given_out`); a bad length of which three of four bytes have arrived (`not_judged_early`), and one of which all
+-- four have (`judged_at_once`).
 use mathlib.Core.Path.{◌≡◌, refl}
 use mathlib.Core.List.{List, [], ◌∷◌, ◌++◌}
 use Prim.Native.Nat.{ℕ, ◌+◌}
@@ -37,27 +37,33 @@ abbrev pub cut_over : List (List ℕ)
 cut_over = (worked ++ take 2 over) ∷ drop 2 over ∷ []
 
 pub question_cut : ((feed_all as_new cut).given ≡ question worked ∷ []) × (kept_of (feed_all as_new cut).reader ≡ take 5 worked)
-unfolding worked question_fields encode bytes_of number_at has_room written question_lengths is_among judged came_of step_by read_of given_by feed_for
+unfolding worked question_fields encode bytes_of number_at has_room written question_lengths is_among judged came_of step_by read_of
+    given_by feed_for
     feed feed_all
 question_cut = (refl, refl)
 
 pub length_cut : ((feed_all as_new cut_over).given ≡ question worked ∷ refusal (number 1) ∷ [])
     × ((feed_all as_new cut_over).reader ≡ after_refusal)
-unfolding worked over question_fields encode bytes_of number_at has_room written question_lengths is_among judged came_of step_by read_of given_by
+unfolding worked over question_fields encode bytes_of number_at has_room written question_lengths is_among judged came_of step_by read_of
+    given_by
     feed_for feed feed_all
 length_cut = (refl, refl)
 
 pub fault_given_out : (feed_all as_new (faulty ∷ [])).given ≡ question faulty ∷ []
-unfolding faulty question_fields encode bytes_of number_at has_room written question_lengths is_among judged came_of step_by read_of given_by feed_for
+unfolding faulty question_fields encode bytes_of number_at has_room written question_lengths is_among judged came_of step_by read_of
+    given_by feed_for
     feed feed_all
 fault_given_out = refl
 
-pub not_judged_early : ((feed_all as_new (take 3 over ∷ [])).given ≡ []) × (kept_of (feed_all as_new (take 3 over ∷ [])).reader ≡ take 3 over)
-unfolding over question_fields encode bytes_of number_at has_room written question_lengths is_among judged came_of step_by read_of given_by feed_for
+pub not_judged_early : ((feed_all as_new (take 3 over ∷ [])).given ≡ []) × (kept_of (feed_all as_new (take 3 over ∷ [])).reader
+    ≡ take 3 over)
+unfolding over question_fields encode bytes_of number_at has_room written question_lengths is_among judged came_of step_by read_of
+    given_by feed_for
     feed feed_all
 not_judged_early = (refl, refl)
 
 pub judged_at_once : (feed_all as_new (high ∷ [])).given ≡ refusal (number 1) ∷ []
-unfolding high question_fields encode bytes_of number_at has_room written question_lengths is_among judged came_of step_by read_of given_by feed_for
+unfolding high question_fields encode bytes_of number_at has_room written question_lengths is_among judged came_of step_by read_of
+    given_by feed_for
     feed feed_all
 judged_at_once = refl

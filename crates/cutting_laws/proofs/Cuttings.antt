@@ -1,5 +1,5 @@
--- The bytes of a stream determine its output and the final state (`holds-one`, by induction on `StreamHolds`). So from any state that a
--- reader can reach, the output and the final state are the same however the stream is cut into pieces (`any-cutting`).
+-- The bytes of a stream determine its output and the final state (`holds_one`, by induction on `StreamHolds`). So from any state that a
+-- reader can reach, the output and the final state are the same however the stream is cut into pieces (`any_cutting`).
 use mathlib.Core.Path.{◌≡◌, refl}
 use mathlib.Core.List.{List, ◌++◌}
 use Prim.Native.Nat.{ℕ}

@@ -1,5 +1,5 @@
 -- A new reader fed with pieces gives out what the stream of these pieces holds (`holds`). Feeding one more piece gives what the longer
--- stream holds (`feed-holds`, by induction on `StreamHolds`), and so does feeding several (`feed-all-holds`, by induction on the
+-- stream holds (`feed_holds`, by induction on `StreamHolds`), and so does feeding several (`feed_all_holds`, by induction on the
 -- pieces).
 use mathlib.Core.List.{List, [], ◌∷◌, ◌++◌, append-nil, append_assoc}
 use Prim.Native.Nat.{ℕ, suc, ◌≤◌}
@@ -31,7 +31,7 @@ unfolding feed_all concatenation
 feed_all_holds {s} {gs} [] h = rw (append-nil s, append-nil gs) h
 feed_all_holds {s} {gs} {r} (p ∷ ps) h =
     rw (← append_assoc s p (concatenation ps), ← append_assoc gs (feed r p).given (feed_all (feed r p).reader ps).given)
-    (feed_all_holds ps (feed_holds p h))
+    (feed_all_holds {s = s ++ p} {gs = gs ++ (feed r p).given} {r = (feed r p).reader} ps (feed_holds p h))
 
 pub holds : (ps : List (List ℕ)) → StreamHolds (concatenation ps) (feed_all as_new ps).given (feed_all as_new ps).reader
 holds ps = feed_all_holds ps new_holds

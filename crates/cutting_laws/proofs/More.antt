@@ -1,6 +1,6 @@
 -- More bytes change the verdict only if it was nothing yet: a bad length remains a bad length (`bad_more`), and a whole question remains
--- a whole question (`whole-more`), because only the bytes of the length decide. If more bytes finish a question, it ends within these
--- (`part-ends`).
+-- a whole question (`whole_more`), because only the bytes of the length decide. If more bytes finish a question, it ends within these
+-- (`part_ends`).
 use mathlib.Core.Path.{◌≡◌, sym, ap, ◌∙◌}
 use mathlib.Core.List.{List, ◌++◌}
 use Prim.Native.Nat.{ℕ, ◌≤◌, ◌<◌}

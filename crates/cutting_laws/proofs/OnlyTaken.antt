@@ -1,4 +1,4 @@
--- The bytes that a call does not take have no effect on it, whatever the state: the step is the same without them (`only-taken`). So the
+-- The bytes that a call does not take have no effect on it, whatever the state: the step is the same without them (`only_taken`). So the
 -- next state is the same whether or not these bytes were passed in with the call.
 use mathlib.Core.Path.{◌≡◌, refl, sym, ap, ◌∙◌}
 use mathlib.Core.Bool.{Bool, true, false, cond}
@@ -37,9 +37,9 @@ cut_front kept piece size h = by (leb (length kept) size) refl
 
 module _ (r : Reader) (piece : List ℕ) where
   -- The bytes that a finished question takes from a piece finish it even without the rest of the piece.
-  question-alone : {size : ℕ} → Verdict (kept_of r ++ piece) (Question size)
+  question_alone : {size : ℕ} → Verdict (kept_of r ++ piece) (Question size)
       → Verdict (kept_of r ++ take (size - length (kept_of r)) piece) (Question size)
-  question-alone {size} j =
+  question_alone {size} j =
       let held = kept_of r ++ take (size - length (kept_of r)) piece in
       let front : take size held ≡ take size (kept_of r ++ piece) =
       cut_front (kept_of r) piece size (omega (arith, (whole_fits j).0, length-append (kept_of r) piece)) in
@@ -50,25 +50,25 @@ module _ (r : Reader) (piece : List ℕ) where
   unfolding read_of came_of
   step_by_lem other e f = ap (λ (k : Came). step_by k r other) (ap (λ (b : Bool). cond b NeedsReset (judged (kept_of r ++ other))) e ∙ f)
 
-  judged-alone : (c : Came) → Verdict (kept_of r ++ piece) c → r.refused ≡ false
+  judged_alone : (c : Came) → Verdict (kept_of r ++ piece) c → r.refused ≡ false
       → read_of r (take (step_by c r piece).taken piece) ≡ step_by c r piece
   unfolding step_by
-  judged-alone (Question size) j e =
+  judged_alone (Question size) j e =
       let front = cut_front (kept_of r) piece size (omega (arith, (whole_fits j).0, length-append (kept_of r) piece)) in
-      step_by_lem (take (size - length (kept_of r)) piece) e (judged_by (question-alone j))
+      step_by_lem (take (size - length (kept_of r)) piece) e (judged_by (question_alone j))
       ∙ ap (λ (l : List ℕ). record {
         next = as_new;
         taken = size - length (kept_of r);
         came = Question size;
         question = written r.bytes l;
       }) front
-  judged-alone Nothing j e = rw (take-length piece) (step_by_lem piece e (judged_by j))
-  judged-alone BadLength j e = rw (take-length piece) (step_by_lem piece e (judged_by j))
-  judged-alone NeedsReset j e = never_reset j
+  judged_alone Nothing j e = rw (take-length piece) (step_by_lem piece e (judged_by j))
+  judged_alone BadLength j e = rw (take-length piece) (step_by_lem piece e (judged_by j))
+  judged_alone NeedsReset j e = never_reset j
 
-  pub only-taken : read_of r (take (read_of r piece).taken piece) ≡ read_of r piece
+  pub only_taken : read_of r (take (read_of r piece).taken piece) ≡ read_of r piece
   unfolding read_of came_of step_by
-  only-taken = by r.refused refl
+  only_taken = by r.refused refl
     where
       by : (b : Bool) → r.refused ≡ b → read_of r (take (read_of r piece).taken piece) ≡ read_of r piece
       by true e =
@@ -77,4 +77,4 @@ module _ (r : Reader) (piece : List ℕ) where
           is (take (read_of r piece).taken piece) ∙ sym (is piece)
       by false e =
           let is : read_of r piece ≡ step_by (judged (kept_of r ++ piece)) r piece = step_by_lem piece e refl in
-          ap (λ (s : Step). read_of r (take s.taken piece)) is ∙ judged-alone (judged (kept_of r ++ piece)) (verdict refl) e ∙ sym is
+          ap (λ (s : Step). read_of r (take s.taken piece)) is ∙ judged_alone (judged (kept_of r ++ piece)) (verdict refl) e ∙ sym is

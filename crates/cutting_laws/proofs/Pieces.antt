@@ -1,5 +1,5 @@
 -- If a piece is fed to a reader that keeps unfinished bytes, the result is what these bytes and the piece hold together, and no byte of
--- the piece is left (`feed-kept`). The proof is by induction on the number of calls, which must be above the number of bytes in the
+-- the piece is left (`feed_kept`). The proof is by induction on the number of calls, which must be above the number of bytes in the
 -- piece. That is enough, because a call that finishes a question takes at least one byte.
 use mathlib.Core.Path.{◌≡◌, refl}
 use mathlib.Core.Bool.{cond}

@@ -1,6 +1,6 @@
 -- For every state that a reader can reach: a call takes at least one byte of a piece that is not empty, unless it gives B4 (`progress`).
--- Feeding leaves no byte of a piece if no length was refused (`feeding-ends`), and more calls change nothing (`more-calls`). If a length
--- was refused, the state is `after_refusal` (`reached-refused`). Each proof splits on the two cases of `Ends`: the reader keeps
+-- Feeding leaves no byte of a piece if no length was refused (`feeding_ends`), and more calls change nothing (`more_calls`). If a length
+-- was refused, the state is `after_refusal` (`reached_refused`). Each proof splits on the two cases of `Ends`: the reader keeps
 -- unfinished bytes, or it has refused a length.
 use mathlib.Core.Path.{◌≡◌, refl, sym, ◌∙◌}
 use mathlib.Core.Bool.{true, false}
@@ -55,6 +55,7 @@ pub more_calls : (r : Reader) → Reached r → (piece : List ℕ) (calls : ℕ)
 unfolding feed
 more_calls r h piece calls l = by (reached h).ends
   where
-    by : {rest : List ℕ} {last : List Given} {t : Reader} → Ends rest last t → feed_for calls t piece ≡ feed_for (suc (length piece)) t piece
+    by : {rest : List ℕ} {last : List Given} {t : Reader} → Ends rest last t
+        → feed_for calls t piece ≡ feed_for (suc (length piece)) t piece
     by {rest} (kept j) = same_fed (feed_kept calls rest piece j l) (feed_kept (suc (length piece)) rest piece j (omega arith))
     by (refused_rest j) = refused_feed calls piece ∙ sym (refused_feed (suc (length piece)) piece)

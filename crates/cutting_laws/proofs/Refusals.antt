@@ -1,6 +1,6 @@
--- What follows a refusal. If a reset is needed, a call gives B4, takes nothing and changes nothing (`needs-reset`). A call that refuses a
--- length takes the whole piece and leaves `after_refusal` (`refused-after`). From then on, feeding gives out nothing, changes nothing and
--- takes no byte (`refused-feed`, by induction on the calls; `refused-piece`; `refused_all`, by induction on the pieces).
+-- What follows a refusal. If a reset is needed, a call gives B4, takes nothing and changes nothing (`needs_reset`). A call that refuses a
+-- length takes the whole piece and leaves `after_refusal` (`refused_after`). From then on, feeding gives out nothing, changes nothing and
+-- takes no byte (`refused_feed`, by induction on the calls; `refused_piece`; `refused_all`, by induction on the pieces).
 use mathlib.Core.Path.{◌≡◌, refl}
 use mathlib.Core.Bool.{true}
 use mathlib.Core.List.{List, [], ◌∷◌}

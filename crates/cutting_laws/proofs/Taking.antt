@@ -1,6 +1,6 @@
--- If no length was refused, every byte of a stream is in a question or is kept (`taken-whole`). If one was refused, the bytes before it
--- are in questions, and those from it on are dropped or left (`taken-to-refusal`). Both follow from the parts of what the taken bytes
--- hold (`taken-holds`, by induction on the pieces).
+-- If no length was refused, every byte of a stream is in a question or is kept (`taken_whole`). If one was refused, the bytes before it
+-- are in questions, and those from it on are dropped or left (`taken_to_refusal`). Both follow from the parts of what the taken bytes
+-- hold (`taken_holds`, by induction on the pieces).
 use mathlib.Core.Path.{◌≡◌, refl, sym, ap, ◌∙◌}
 use mathlib.Core.Bool.{true, false, true≢false}
 use mathlib.Core.List.{List, [], ◌∷◌, ◌++◌, map, append-nil, append_assoc}
@@ -56,7 +56,8 @@ taken_none {s} {gs} ps h =
 pub taken_holds : {s : List ℕ} {gs : List Given} {r : Reader} (ps : List (List ℕ)) → StreamHolds s gs r → Taken s gs r ps
 unfolding feed_all concatenation
 taken_holds {s} {gs} [] h = record { taken = []; bytes = refl; holds = rw (append-nil s, append-nil gs) h; all = λ e. refl }
-taken_holds {s} {gs} {r} (p ∷ ps) h = by (parts h).ends h (taken_holds ps (feed_holds p h))
+taken_holds {s} {gs} {r} (p ∷ ps) h = by (parts h).ends h (taken_holds {s = s ++ p} {gs = gs
+    ++ (feed r p).given} {r = (feed r p).reader} ps (feed_holds p h))
   where
     by : {rest : List ℕ} {last : List Given} {t : Reader} → Ends rest last t → StreamHolds s gs t
         → Taken (s ++ p) (gs ++ (feed t p).given) (feed t p).reader ps → Taken s gs t (p ∷ ps)
@@ -69,28 +70,28 @@ module _ (ps : List (List ℕ)) where
   abbrev f : Fed
   f = feed_all as_new ps
 
-  from-new : Taken [] [] as_new ps
-  from-new = taken_holds ps new_holds
+  from_new : Taken [] [] as_new ps
+  from_new = taken_holds ps new_holds
 
-  pub taken-whole : f.reader.refused ≡ false → TakenWhole (concatenation ps) f
-  taken-whole e =
-      let p = parts from-new.holds in
+  pub taken_whole : f.reader.refused ≡ false → TakenWhole (concatenation ps) f
+  taken_whole e =
+      let p = parts from_new.holds in
       let end = kept_ends p.ends e in
-      let none : f.left ≡ [] = from-new.all e in
+      let none : f.left ≡ [] = from_new.all e in
       record {
         questions = p.questions;
         all = p.all;
         given = p.given ∙ ap (λ (l : List Given). map question p.questions ++ l) end.0 ∙ append-nil (map question p.questions);
         bytes =
-            ap (λ (l : List ℕ). concatenation p.questions ++ l) end.1 ∙ p.bytes ∙ sym (append-nil from-new.taken)
-            ∙ ap (λ (l : List ℕ). from-new.taken ++ l) (sym none) ∙ from-new.bytes;
+            ap (λ (l : List ℕ). concatenation p.questions ++ l) end.1 ∙ p.bytes ∙ sym (append-nil from_new.taken)
+            ∙ ap (λ (l : List ℕ). from_new.taken ++ l) (sym none) ∙ from_new.bytes;
         not_finished = rw end.1 end.2;
         nothing_left = none;
       }
 
-  pub taken-to-refusal : f.reader.refused ≡ true → TakenToRefusal (concatenation ps) f
-  taken-to-refusal e =
-      let p = parts from-new.holds in
+  pub taken_to_refusal : f.reader.refused ≡ true → TakenToRefusal (concatenation ps) f
+  taken_to_refusal e =
+      let p = parts from_new.holds in
       let end = refused_ends p.ends e in
       record {
         questions = p.questions;
@@ -98,6 +99,6 @@ module _ (ps : List (List ℕ)) where
         given = p.given ∙ ap (λ (l : List Given). map question p.questions ++ l) end.0;
         dropped = p.rest;
         bad_length = end.1;
-        bytes = ap (λ (l : List ℕ). l ++ f.left) p.bytes ∙ from-new.bytes;
+        bytes = ap (λ (l : List ℕ). l ++ f.left) p.bytes ∙ from_new.bytes;
         reader = end.2;
       }

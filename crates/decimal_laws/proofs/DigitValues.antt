@@ -1,5 +1,5 @@
 -- The digits of a number show the number (`value_of`): the first i of its k digits show the number without its last k - i digits. A whole
--- part below 10 ^ 7 is written with all its digits and no needless zero (`no-needless-zero`).
+-- part below 10 ^ 7 is written with all its digits and no needless zero (`no_needless_zero`).
 use mathlib.Core.Path.{◌≡◌, refl, sym, ap, ◌∙◌, subst}
 use mathlib.Core.Logic.{◌⊎◌, inl, inr}
 use mathlib.Core.Bool.{Bool, true, false, cond}
@@ -16,16 +16,16 @@ use Rattle.decimal_laws.specs.Parsing.{NoNeedlessZero}
 
 -- The k bytes from the offset `at` on are the digits of n.
 module _ (s : List ℕ) (at k n : ℕ) (small : n < 10 ^ k) (shown : (i : ℕ) → i < k → get_or s (at + i) 0 ≡ digit n (k - 1 - i)) where
-  value-up-to : (i : ℕ) → i ≤ k → value_at s at i ≡ n / 10 ^ (k - i)
+  value_up_to : (i : ℕ) → i ≤ k → value_at s at i ≡ n / 10 ^ (k - i)
   unfolding value_at
-  value-up-to zero h = sym (div-eq_of_lt (rw sub-zero small))
-  value-up-to (suc i) h =
+  value_up_to zero h = sym (div-eq_of_lt (rw sub-zero small))
+  value_up_to (suc i) h =
       let j = k - 1 - i in
       let e : k - i ≡ suc j = omega arith in
       let f : j ≡ k - suc i = omega arith in
       let power : n / 10 ^ (k - i) ≡ n / (10 ^ j * 10) = ap (λ (x : ℕ). n / 10 ^ x) e ∙ ap (λ (x : ℕ). n / x) (pow-suc 10 j) in
       let step : n / 10 ^ (k - i) ≡ n / 10 ^ j / 10 = power ∙ sym (div-div-eq-div-mul n (10 ^ j) 10) in
-      ap (λ (x : ℕ). x * 10 + get_or s (at + i) 0 % 16) (value-up-to i (omega arith) ∙ step)
+      ap (λ (x : ℕ). x * 10 + get_or s (at + i) 0 % 16) (value_up_to i (omega arith) ∙ step)
       ∙ ap (λ (x : ℕ). n / 10 ^ j / 10 * 10 + x % 16) (shown i (omega arith))
       ∙ joined (n / 10 ^ j)
       ∙ ap (λ (x : ℕ). n / 10 ^ x) f
@@ -34,7 +34,7 @@ module _ (s : List ℕ) (at k n : ℕ) (small : n < 10 ^ k) (shown : (i : ℕ) �
       joined m = omega arith
 
   pub value_of : value_at s at k ≡ n
-  value_of = value-up-to k (omega arith) ∙ ap (λ (x : ℕ). n / 10 ^ x) (sub_self k) ∙ div-one n
+  value_of = value_up_to k (omega arith) ∙ ap (λ (x : ℕ). n / 10 ^ x) (sub_self k) ∙ div-one n
 
 -- ---- how many digits a whole part has
 

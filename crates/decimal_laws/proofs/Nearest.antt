@@ -1,4 +1,4 @@
--- No whole number is nearer to n / d than `closest n d` is (`nearest-count`). The number n is q * d + r with r below d. For a whole
+-- No whole number is nearer to n / d than `closest n d` is (`nearest_count`). The number n is q * d + r with r below d. For a whole
 -- number k below the chosen c, k * d is at least d below c * d, and for a greater k it is at least d above. So only q and q + 1 remain to
 -- compare.
 use mathlib.Core.Path.{◌≡◌, refl, sym, subst}
@@ -16,8 +16,8 @@ abbrev Beats : ℕ → ℕ → ℕ → ℕ → Type 0
 Beats n d c k = (distance n (c * d) < distance n (k * d)) ⊎ ((distance n (c * d) ≡ distance n (k * d)) × (c % 2 ≡ 0))
 
 module _ (q r d k : ℕ) (h : r < d) where
-  low-wins : r * 2 ≤ d → (r * 2 ≡ d → q % 2 ≡ 0) → (k ≡ q → ⊥) → Beats (q * d + r) d q k
-  low-wins s even other = by (compare k q) (compared k q)
+  low_wins : r * 2 ≤ d → (r * 2 ≡ d → q % 2 ≡ 0) → (k ≡ q → ⊥) → Beats (q * d + r) d q k
+  low_wins s even other = by (compare k q) (compared k q)
     where
       next : (o : Ordering) → Compared o k (suc q) → q < k → Beats (q * d + r) d q k
       next Ordering.lt x y = absurd (omega arith)
@@ -37,8 +37,8 @@ module _ (q r d k : ℕ) (h : r < d) where
       by Ordering.eq x = absurd (other x)
       by Ordering.gt x = next (compare k (suc q)) (compared k (suc q)) x
 
-  high-wins : d ≤ r * 2 → (r * 2 ≡ d → suc q % 2 ≡ 0) → (k ≡ suc q → ⊥) → Beats (q * d + r) d (suc q) k
-  high-wins s even other = by (compare k q) (compared k q)
+  high_wins : d ≤ r * 2 → (r * 2 ≡ d → suc q % 2 ≡ 0) → (k ≡ suc q → ⊥) → Beats (q * d + r) d (suc q) k
+  high_wins s even other = by (compare k q) (compared k q)
     where
       top : suc q * d ≡ q * d + d
       top = omega arith
@@ -62,19 +62,19 @@ module _ (q r d k : ℕ) (h : r < d) where
       by Ordering.gt x = next (compare k (suc q)) (compared k (suc q)) x
 
   wins : {c : ℕ} → Chosen q r d c → (k ≡ c → ⊥) → Beats (q * d + r) d c k
-  wins (down s) other = low-wins (omega arith) (λ (e : r * 2 ≡ d). absurd (omega arith)) other
+  wins (down s) other = low_wins (omega arith) (λ (e : r * 2 ≡ d). absurd (omega arith)) other
   wins (tie s) other = by (q % 2) refl (omega arith) other
     where
       by : (p : ℕ) → q % 2 ≡ p → p < 2 → (k ≡ q + p → ⊥) → Beats (q * d + r) d (q + p) k
-      by zero e l o = rw add-zero (low-wins (omega arith) (λ (x : r * 2 ≡ d). e) (rw add-zero at o))
+      by zero e l o = rw add-zero (low_wins (omega arith) (λ (x : r * 2 ≡ d). e) (rw add-zero at o))
       by (suc zero) e l o =
-          let won = high-wins (omega arith) (λ (x : r * 2 ≡ d). odd q e) (rw add-one at o) in
+          let won = high_wins (omega arith) (λ (x : r * 2 ≡ d). odd q e) (rw add-one at o) in
           subst (λ (x : ℕ). Beats (q * d + r) d x k) (sym (add-one q)) won
         where
           odd : (y : ℕ) → y % 2 ≡ 1 → suc y % 2 ≡ 0
           odd y g = omega arith
       by (suc (suc p)) e l o = absurd (omega arith)
-  wins (up s) other = high-wins (omega arith) (λ (e : r * 2 ≡ d). absurd (omega arith)) other
+  wins (up s) other = high_wins (omega arith) (λ (e : r * 2 ≡ d). absurd (omega arith)) other
 
 pub nearest_count : (n d : ℕ) → 0 < d → NearestCount n d (closest n d)
 nearest_count n d p =

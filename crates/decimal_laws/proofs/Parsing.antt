@@ -1,8 +1,8 @@
--- The text of a decimal and reading it back. The text of a well-formed decimal shows that decimal (`decimal-in-text`): its sign, by the
--- first byte, and both its numbers, by their digits. So it is a text of a decimal (`is-text`), and bytes that are the text of a decimal
--- are the text of the decimal that they show (`text-shown`). `parses` says what `parse` accepts, for all bytes.
+-- The text of a decimal and reading it back. The text of a well-formed decimal shows that decimal (`decimal_in_text`): its sign, by the
+-- first byte, and both its numbers, by their digits. So it is a text of a decimal (`is_text`), and bytes that are the text of a decimal
+-- are the text of the decimal that they show (`text_shown`). `parses` says what `parse` accepts, for all bytes.
 use mathlib.Core.Path.{◌≡◌, refl, sym, ap, ◌∙◌, subst}
-use mathlib.Core.Bool.{Bool, true, false, ◌&&◌, and_true, false≢true}
+use mathlib.Core.Bool.{Bool, true, false, ◌&&◌, and-true, false≢true}
 use mathlib.Core.List.{List, ◌++◌}
 use Prim.Native.Nat.{ℕ, ◌+◌, ◌-◌, ◌/◌, ◌%◌, ◌^◌}
 use native.Mathlib.Omega.{arith}
@@ -15,7 +15,7 @@ use Rattle.decimal.specs.Texts.{sign_text, sign_length, value_at, decimal_in, is
 use Rattle.decimal.specs.declared.Decimal.{Decimal}
 use Rattle.decimal.specs.declared.DecimalResult.TheVariants.{Number, Refused}
 use Rattle.decimal.proofs.Digits.{digit_count_range}
-use Rattle.decimal.proofs.TextBytes.{sign_size, whole_size, unsigned, length-text, whole-at, at-whole, at-billionths}
+use Rattle.decimal.proofs.TextBytes.{sign_size, whole_size, unsigned, length_text, whole_at, at_whole, at_billionths}
 use Rattle.decimal.proofs.SameTexts.{same_true, same_equal}
 use Rattle.decimal.proofs.ParseCases.{parse_number, parse_refused}
 use Rattle.decimal_laws.specs.Parsing.{IsTextOf, Parses}
@@ -36,7 +36,7 @@ sign_shown d = by d.negative
     by : (b : Bool) → eqb (get_or (sign_text b ++ unsigned d) 0 0) 45 ≡ b
     by true = refl
     by false =
-        let digit = whole-at d 0 (digit_count_range d.whole).0 in
+        let digit = whole_at d 0 (digit_count_range d.whole).0 in
         ne_eqb (get_or (unsigned d) 0 0) 45 (λ e. no (d.whole / 10 ^ (whole_size d - 1 - 0)) (sym digit ∙ e))
 
 abbrev decimal : Bool → ℕ → ℕ → Decimal
@@ -49,13 +49,13 @@ decimal_in_text d w =
     let f = formed d w in
     let s = sign_size d in
     let p = whole_size d in
-    let digits : length t - 10 - s ≡ p = ap (λ (x : ℕ). x - 10 - s) (length-text d) ∙ middle s p in
-    let start : length t - 9 ≡ s + p + 1 = ap (λ (x : ℕ). x - 9) (length-text d) ∙ end s p in
+    let digits : length t - 10 - s ≡ p = ap (λ (x : ℕ). x - 10 - s) (length_text d) ∙ middle s p in
+    let start : length t - 9 ≡ s + p + 1 = ap (λ (x : ℕ). x - 9) (length_text d) ∙ end s p in
     let enough = (no_needless_zero d.whole f.whole_below).enough in
     let whole : value_at t s (length t - 10 - s) ≡ d.whole =
-    ap (λ (x : ℕ). value_at t s x) digits ∙ value_of t s p d.whole enough (at-whole d) in
+    ap (λ (x : ℕ). value_at t s x) digits ∙ value_of t s p d.whole enough (at_whole d) in
     let billionths : value_at t (length t - 9) 9 ≡ d.billionths =
-    ap (λ (x : ℕ). value_at t x 9) start ∙ value_of t (s + p + 1) 9 d.billionths f.billionths_below (at-billionths d) in
+    ap (λ (x : ℕ). value_at t x 9) start ∙ value_of t (s + p + 1) 9 d.billionths f.billionths_below (at_billionths d) in
     ap (λ (b : Bool). decimal b (value_at t (sign_length b) (length t - 10 - sign_length b)) (value_at t (length t - 9) 9)) (sign_shown d)
     ∙ ap (λ (x : ℕ). decimal d.negative x (value_at t (length t - 9) 9)) whole
     ∙ ap (λ (x : ℕ). decimal d.negative d.whole x) billionths
@@ -78,7 +78,7 @@ is_text d w =
     let t = text_of d in
     let back = decimal_in_text d w in
     let same : same_text t (text_of (decimal_in t)) ≡ true = same_equal t (text_of (decimal_in t)) (ap text_of (sym back)) in
-    ap (λ (b : Bool). is_well_formed (decimal_in t) && b) same ∙ and_true (is_well_formed (decimal_in t)) ∙ ap is_well_formed back ∙ w
+    ap (λ (b : Bool). is_well_formed (decimal_in t) && b) same ∙ and-true (is_well_formed (decimal_in t)) ∙ ap is_well_formed back ∙ w
 
 both : (a b : Bool) → a && b ≡ true → (a ≡ true) × (b ≡ true)
 both true b e = (refl, e)

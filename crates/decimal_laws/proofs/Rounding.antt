@@ -1,8 +1,8 @@
--- `round_of` gives every f64 its nearest decimal, or refuses it exactly if it is not finite or its size is 10 ^ 7 or more (`is-rounded`).
--- No count is above 9999999999999998 (`count-limit`), so the decimal of an f64 in range is well formed (`decimal-well-formed`). The proof
+-- `round_of` gives every f64 its nearest decimal, or refuses it exactly if it is not finite or its size is 10 ^ 7 or more (`is_rounded`).
+-- No count is above 9999999999999998 (`count_limit`), so the decimal of an f64 in range is well formed (`decimal_well_formed`). The proof
 -- of the limit goes by the bit pattern: it is below the pattern of 10 ^ 7, or the f64 is not in range.
 use mathlib.Core.Path.{◌≡◌, refl, sym, ap, ◌∙◌, subst}
-use mathlib.Core.Bool.{Bool, true, false, not, ◌&&◌, ◌||◌, and_true, true≢false, false≢true}
+use mathlib.Core.Bool.{Bool, true, false, not, ◌&&◌, ◌||◌, and-true, true≢false, false≢true}
 use Prim.Native.Nat.{ℕ, ◌*◌, ◌%◌, ◌^◌, ◌≤◌, ◌<◌}
 use native.Mathlib.Nat.{mul-le-mul_right}
 use native.Mathlib.Omega.{arith}
@@ -89,7 +89,7 @@ count_with : (s : Bool) (c : ℕ) → count_in (decimal_with s c) ≡ c
 count_with s c = omega arith
 
 sign_with : (s : Bool) (c : ℕ) → 0 < c → (decimal_with s c).negative ≡ s
-sign_with s c h = ap (λ (b : Bool). s && b) (lt-ltb 0 c h) ∙ and_true s
+sign_with s c h = ap (λ (b : Bool). s && b) (lt-ltb 0 c h) ∙ and-true s
 
 -- The decimal of every f64 in range is well formed.
 pub decimal_well_formed : (x : Float) → T (fits binary64 x) → is_in_range x ≡ true → is_well_formed (decimal_of x) ≡ true

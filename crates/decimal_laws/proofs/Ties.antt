@@ -1,4 +1,4 @@
--- A number n of units is a tie exactly if it is an odd multiple of 2 ^ 1064 (`tie-exactly`). 10 ^ 9 is 2 ^ 9 * 5 ^ 9, so a tie means that
+-- A number n of units is a tie exactly if it is an odd multiple of 2 ^ 1064 (`tie_exactly`). 10 ^ 9 is 2 ^ 9 * 5 ^ 9, so a tie means that
 -- n * 5 ^ 9 is (2 * k + 1) * 2 ^ 1064. Because 5 ^ 9 is odd, each factor 2 of the right side divides n (`divided`, by induction).
 use mathlib.Core.Path.{◌≡◌, refl, sym, ap, ◌∙◌}
 use Prim.Native.Nat.{ℕ, zero, suc, ◌+◌, ◌*◌, ◌/◌, ◌%◌, ◌^◌, ◌<◌}

@@ -1,5 +1,5 @@
 -- The test `is_well_formed` as three facts: a whole part below 10 ^ 7, billionths below 10 ^ 9, and no minus sign on a zero (`formed`,
--- `is-formed`).
+-- `is_formed`).
 use mathlib.Core.Path.{◌≡◌, refl}
 use mathlib.Core.Bool.{Bool, true, false, not, ◌&&◌, ◌||◌, false≢true}
 use Prim.Native.Nat.{ℕ, ◌+◌, ◌^◌, ◌<◌}

@@ -1,6 +1,6 @@
 -- The bytes and the entries of an answer. Each entry is at its offset in the bytes (`entry_place`). It has the bracket of its
--- crossing, and the chosen end and the velocities of that bracket (`bracket-of`, `chosen_by`). All velocities are finite exactly if
--- those of each crossing are (`each-finite`, `finite-each`).
+-- crossing, and the chosen end and the velocities of that bracket (`bracket_of`, `chosen_by`). All velocities are finite exactly if
+-- those of each crossing are (`each_finite`, `finite_each`).
 use mathlib.Core.Path.{◌≡◌, refl, sym, ap, ◌∙◌}
 use mathlib.Core.Bool.{Bool, true, false, cond, not, ◌&&◌}
 use mathlib.Core.Logic.{◌⊎◌, inl, inr, ⊎_elim}
@@ -105,36 +105,38 @@ void_by (Timed t) w e = timed (t ≺ w) e
     timed false f = absurd (let z : ◌≡◌ {A = ℕ} 0 1 = cc f in omega (arith, z))
 
 module _ (p : Problem) where
-  pub entries-pairs : entries_of p ≡ map (entry_at p) (pairs_of p)
+  pub entries_pairs : entries_of p ≡ map (entry_at p) (pairs_of p)
   unfolding entries_of brackets_of brackets
-  entries-pairs = map_twice (entry_for p) (bracket_of (sides_of p) (grid_of p)) (pairs_of p)
+  entries_pairs = map_twice (entry_for p) (bracket_of (sides_of p) (grid_of p)) (pairs_of p)
 
-  each_of : (xs : List ℕ) → every (finite_for p) (map (bracket_at p) xs) ≡ true → (i : ℕ) → Listed i xs → finite_for p (bracket_at p i) ≡ true
+  each_of : (xs : List ℕ) → every (finite_for p) (map (bracket_at p) xs) ≡ true → (i : ℕ) → Listed i xs
+      → finite_for p (bracket_at p i) ≡ true
   unfolding every Listed
   each_of [] e i h = absurd h
   each_of (x ∷ xs) e i h =
       let b = and_both (finite_for p (bracket_at p x)) (every (finite_for p) (map (bracket_at p) xs)) e in
       ⊎_elim (λ d. ap (λ (j : ℕ). finite_for p (bracket_at p j)) d ∙ b.0) (λ l. each_of xs b.1 i l) h
 
-  of-each : (xs : List ℕ) → ((i : ℕ) → Listed i xs → finite_for p (bracket_at p i) ≡ true) → every (finite_for p) (map (bracket_at p) xs) ≡ true
+  of_each : (xs : List ℕ) → ((i : ℕ) → Listed i xs → finite_for p (bracket_at p i) ≡ true)
+      → every (finite_for p) (map (bracket_at p) xs) ≡ true
   unfolding every Listed
-  of-each [] f = refl
-  of-each (x ∷ xs) f = rw (f x (inl refl)) (of-each xs (λ i l. f i (inr l)))
+  of_each [] f = refl
+  of_each (x ∷ xs) f = rw (f x (inl refl)) (of_each xs (λ i l. f i (inr l)))
 
-  pub each-finite : every (finite_for p) (brackets_of p) ≡ true → (i : ℕ) → Listed i (pairs_of p) → finite_for p (bracket_at p i) ≡ true
+  pub each_finite : every (finite_for p) (brackets_of p) ≡ true → (i : ℕ) → Listed i (pairs_of p) → finite_for p (bracket_at p i) ≡ true
   unfolding brackets_of brackets
-  each-finite e = each_of (pairs_of p) e
+  each_finite e = each_of (pairs_of p) e
 
-  pub finite-each : ((i : ℕ) → Listed i (pairs_of p) → finite_for p (bracket_at p i) ≡ true) → every (finite_for p) (brackets_of p) ≡ true
+  pub finite_each : ((i : ℕ) → Listed i (pairs_of p) → finite_for p (bracket_at p i) ≡ true) → every (finite_for p) (brackets_of p) ≡ true
   unfolding brackets_of brackets
-  finite-each f = of-each (pairs_of p) f
+  finite_each f = of_each (pairs_of p) f
 
   -- If not all velocities are finite, there is a listed pair whose velocities are not both finite.
-  not-each : (xs : List ℕ) → every (finite_for p) (map (bracket_at p) xs) ≡ false →
+  not_each : (xs : List ℕ) → every (finite_for p) (map (bracket_at p) xs) ≡ false →
       (i : ℕ) × (Listed i xs × (finite_for p (bracket_at p i) ≡ false))
   unfolding every Listed
-  not-each [] e = absurd (let z : ◌≡◌ {A = ℕ} 0 1 = cc e in omega (arith, z))
-  not-each (x ∷ xs) e = which (finite_for p (bracket_at p x)) refl e (not-each xs)
+  not_each [] e = absurd (let z : ◌≡◌ {A = ℕ} 0 1 = cc e in omega (arith, z))
+  not_each (x ∷ xs) e = which (finite_for p (bracket_at p x)) refl e (not_each xs)
     where
       which : (b : Bool) → finite_for p (bracket_at p x) ≡ b → b && every (finite_for p) (map (bracket_at p) xs) ≡ false →
           (every (finite_for p) (map (bracket_at p) xs) ≡ false → (i : ℕ) × (Listed i xs × (finite_for p (bracket_at p i) ≡ false))) →
@@ -142,46 +144,48 @@ module _ (p : Problem) where
       which true h f g = let r = g f in (r.0, (inr r.1.0, r.1.1))
       which false h f g = (x, (inl refl, h))
 
-  pub finite-not : every (finite_for p) (brackets_of p) ≡ false → (i : ℕ) × (Listed i (pairs_of p) × (finite_for p (bracket_at p i) ≡ false))
+  pub finite_not : every (finite_for p) (brackets_of p) ≡ false
+      → (i : ℕ) × (Listed i (pairs_of p) × (finite_for p (bracket_at p i) ≡ false))
   unfolding brackets_of brackets
-  finite-not e = not-each (pairs_of p) e
+  finite_not e = not_each (pairs_of p) e
 
-  pub finite-is : (i : ℕ) → entry_finite (entry_at p i) ≡ finite_for p (bracket_at p i)
+  pub finite_is : (i : ℕ) → entry_finite (entry_at p i) ≡ finite_for p (bracket_at p i)
   unfolding finite_for
-  finite-is i = refl
+  finite_is i = refl
 
   -- ---- crossings by times and by sides, and the times of places whose side is known
 
-  side-is : (k : ℤ) → sides_of p k ≡ side_of (place_of p k) p.wanted
+  side_is : (k : ℤ) → sides_of p k ≡ side_of (place_of p k) p.wanted
   unfolding sides_of side_at place_of
-  side-is k = refl
+  side_is k = refl
 
-  pub timed-at : (k : ℤ) → is_unknown (sides_of p k) ≡ false → (time : Float) × ((place_of p k ≡ Timed time) × (finite_of time ≡ true))
+  pub timed_at : (k : ℤ) → is_unknown (sides_of p k) ≡ false → (time : Float) × ((place_of p k ≡ Timed time) × (finite_of time ≡ true))
   unfolding sides_of place_of
-  timed-at k e = known_finite (search_of p) k e
+  timed_at k e = known_finite (search_of p) k e
 
-  pub side-at : (k : ℤ) (t : Float) → place_of p k ≡ Timed t → sides_of p k ≡ cond (t ≺ p.wanted) Below NotBelow
+  pub side_at_lem : (k : ℤ) (t : Float) → place_of p k ≡ Timed t → sides_of p k ≡ cond (t ≺ p.wanted) Below NotBelow
   unfolding side_of
-  side-at k t e = side-is k ∙ rw e
+  side_at_lem k t e = side_is k ∙ rw e
 
-  pub void-at : (k : ℤ) {reason : Reason} → place_of p k ≡ Void reason → is_unknown (sides_of p k) ≡ true
+  pub void_at_lem : (k : ℤ) {reason : Reason} → place_of p k ≡ Void reason → is_unknown (sides_of p k) ≡ true
   unfolding side_of
-  void-at k e = ap is_unknown (side-is k) ∙ rw e
+  void_at_lem k e = ap is_unknown (side_is k) ∙ rw e
 
-  pub at-void : (k : ℤ) → is_unknown (sides_of p k) ≡ true → (reason : Reason) × (place_of p k ≡ Void reason)
-  at-void k e = void_by (place_of p k) p.wanted (sym (ap is_unknown (side-is k)) ∙ e)
+  pub at_void : (k : ℤ) → is_unknown (sides_of p k) ≡ true → (reason : Reason) × (place_of p k ≡ Void reason)
+  at_void k e = void_by (place_of p k) p.wanted (sym (ap is_unknown (side_is k)) ∙ e)
 
-  pub counts-crosses : (i : ℕ) → IsCrossing p i → crosses (sides_of p) (grid_of p) i ≡ true
+  pub counts_crosses : (i : ℕ) → IsCrossing p i → crosses (sides_of p) (grid_of p) i ≡ true
   unfolding crosses
-  counts-crosses i c =
-      rw (side-at ((grid_of p).place i) c.lower_time c.lower_is, side-at ((grid_of p).place (i + 1)) c.upper_time c.upper_is)
+  counts_crosses i c =
+      rw (side_at_lem ((grid_of p).place i) c.lower_time c.lower_is, side_at_lem ((grid_of p).place (i + 1)) c.upper_time c.upper_is)
       (different (c.lower_time ≺ p.wanted) (c.upper_time ≺ p.wanted) c.apart)
 
-  pub crosses-counts : (i : ℕ) → i < last_place p → crosses (sides_of p) (grid_of p) i ≡ true → IsCrossing p i
+  pub crosses_counts : (i : ℕ) → i < last_place p → crosses (sides_of p) (grid_of p) i ≡ true → IsCrossing p i
   unfolding crosses
-  crosses-counts i h e =
-      let x = timed-at ((grid_of p).place i) (lower_known (sides_of p ((grid_of p).place i)) (sides_of p ((grid_of p).place (i + 1))) e) in
-      let y = timed-at ((grid_of p).place (i + 1)) (upper_known (sides_of p ((grid_of p).place i)) (sides_of p ((grid_of p).place (i + 1))) e) in
+  crosses_counts i h e =
+      let x = timed_at ((grid_of p).place i) (lower_known (sides_of p ((grid_of p).place i)) (sides_of p ((grid_of p).place (i + 1))) e) in
+      let y = timed_at ((grid_of p).place (i + 1)) (upper_known (sides_of p ((grid_of p).place i)) (sides_of p ((grid_of p).place
+      (i + 1))) e) in
       record {
         within = h;
         lower_time = x.0;
@@ -189,28 +193,28 @@ module _ (p : Problem) where
         lower_is = x.1.0;
         upper_is = y.1.0;
         apart = differ (x.0 ≺ p.wanted) (y.0 ≺ p.wanted)
-            (moved (side-at ((grid_of p).place i) x.0 x.1.0) (side-at ((grid_of p).place (i + 1)) y.0 y.1.0) e);
+            (moved (side_at_lem ((grid_of p).place i) x.0 x.1.0) (side_at_lem ((grid_of p).place (i + 1)) y.0 y.1.0) e);
       }
 
   -- ---- the bracket and the chosen end of a crossing
 
-  pub bracket-of : (i : ℕ) → IsCrossing p i →
+  pub bracket_of_lem : (i : ℕ) → IsCrossing p i →
       IsBracket (sides_of p) ((grid_of p).place i) ((grid_of p).place (i + 1)) ((grid_of p).halvings i) (bracket_at p i)
-  bracket-of i h = bracket_holds (sides_of p) (grid_of p) (grid_rises (search_of p)) i (counts-crosses i h)
+  bracket_of_lem i h = bracket_holds (sides_of p) (grid_of p) (grid_rises (search_of p)) i (counts_crosses i h)
 
-  takes-is : (r : Bracket) (a b : Float) → place_of p r.lower ≡ Timed a → place_of p r.upper ≡ Timed b →
+  takes_is : (r : Bracket) (a b : Float) → place_of p r.lower ≡ Timed a → place_of p r.upper ≡ Timed b →
       takes_upper p r ≡ upper_chosen a b p.wanted
   unfolding takes_upper
-  takes-is r a b e f = rw (e, f)
+  takes_is r a b e f = rw (e, f)
 
   pub chosen_by : (i : ℕ) → IsCrossing p i → ChosenBy p (bracket_at p i) (entry_at p i)
   unfolding entry_for velocities_for
   chosen_by i h =
       let r = bracket_at p i in
-      let b = bracket-of i h in
-      let x = timed-at r.lower b.lower_timed in
-      let y = timed-at r.upper b.upper_timed in
-      let t = takes-is r x.0 y.0 x.1.0 y.1.0 in
+      let b = bracket_of_lem i h in
+      let x = timed_at r.lower b.lower_timed in
+      let y = timed_at r.upper b.upper_timed in
+      let t = takes_is r x.0 y.0 x.1.0 y.1.0 in
       record {
         lower_time = x.0;
         upper_time = y.0;
@@ -225,6 +229,6 @@ module _ (p : Problem) where
   unfolding entry_for
   lower_of i = refl
 
-  pub halvings-of : (i : ℕ) → (entry_at p i).halvings ≡ (bracket_at p i).halvings
+  pub halvings_of : (i : ℕ) → (entry_at p i).halvings ≡ (bracket_at p i).halvings
   unfolding entry_for
-  halvings-of i = refl
+  halvings_of i = refl

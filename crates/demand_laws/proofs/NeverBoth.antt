@@ -4,7 +4,7 @@
 use mathlib.Core.Path.{◌≡◌, refl, sym, ap, ◌∙◌}
 use mathlib.Core.Bool.{cond}
 use mathlib.Core.List.{List, ◌++◌}
-use Prim.Native.Nat.{ℕ, ◌+◌, ◌≤◌}
+use Prim.Native.Nat.{ℕ, ◌≤◌}
 use native.Mathlib.Omega.{arith}
 use lib.Dec.{eqb}
 use lib.ListN.{length, drop}
@@ -25,26 +25,26 @@ use Rattle.solver.specs.declared.Outcome.TheVariants.{Refused, RefusedVoid, Answ
 use Rattle.solver.specs.Solve.{Solved, settled_of, solved_after, solve_of, outcome_number}
 use Rattle.sweep.specs.declared.walks.VoidStation.{VoidStation}
 use Rattle.demand_laws.specs.Demand.{problem_from, IsRefused, void_refusal, Recording}
-use Rattle.demand_laws.proofs.Demand.{void-seen, plain_other}
-use Rattle.demand_laws.proofs.VoidStations.{station-fits}
+use Rattle.demand_laws.proofs.Demand.{void_seen, plain_other}
+use Rattle.demand_laws.proofs.VoidStations.{station_fits}
 use Rattle.hypergeometric.proofs.ReasonNumbers.{number_most}
 use Rattle.little_endian.proofs.Numbers.{number_lt}
-use Rattle.question_record.proofs.Recorded.{room_same, when-answered, when-refused, when-void, has_room, number_for, record_short}
-use Rattle.question_record.proofs.WholeRecord.{record-laid, record-size, record_first}
+use Rattle.question_record.proofs.Recorded.{room_same, when_answered, when_refused, when_void, has_room, number_for, record_short}
+use Rattle.question_record.proofs.WholeRecord.{record_laid, record_size, record_first}
 use Rattle.little_endian.proofs.Laid.{laid, laid_length}
 
 module _ (s : List ℕ) where
-  by-verdict : (j : Judged) (b c : List ℕ) → (solved_after j b).outcome ≡ (solved_after j c).outcome
+  by_verdict : (j : Judged) (b c : List ℕ) → (solved_after j b).outcome ≡ (solved_after j c).outcome
   unfolding settled_of
-  by-verdict (Refused n) b c = refl
-  by-verdict (Accepted p) b c = refl
+  by_verdict (Refused n) b c = refl
+  by_verdict (Accepted p) b c = refl
 
   -- Two buffers with room give the same outcome, whatever they held.
   pub same_outcome : (b c : List ℕ) → answer_room ≤ length b → answer_room ≤ length c → (solve_of s b).outcome ≡ (solve_of s c).outcome
   unfolding solve_of
   same_outcome b c h k =
       ap (λ (j : Judged). (solved_after j b).outcome) (room_same s (length b) h)
-      ∙ by-verdict (judge_of s answer_room) b c
+      ∙ by_verdict (judge_of s answer_room) b c
       ∙ sym (ap (λ (j : Judged). (solved_after j c).outcome) (room_same s (length c) k))
 
   -- With two buffers that have room, no question is answered with one and refused with the other.
@@ -65,27 +65,27 @@ module _ (s : List ℕ) where
     over = written b (record_of s)
 
     over_is : over ≡ record_of s ++ drop (length (record_of s)) b
-    over_is = record-laid s b h
+    over_is = record_laid s b h
 
-    over-long : length over ≡ length b
-    over-long = laid_length b (record_of s) short
+    over_long : length over ≡ length b
+    over_long = laid_length b (record_of s) short
 
     twice : written over (record_of s) ≡ over
     twice =
-        laid over (record_of s) (omega (arith, short, over-long))
+        laid over (record_of s) (omega (arith, short, over_long))
         ∙ ap (λ (l : List ℕ). record_of s ++ drop (length (record_of s)) l) over_is
         ∙ ap (λ (l : List ℕ). record_of s ++ l) (drop-append_seam (record_of s) (drop (length (record_of s)) b))
         ∙ sym over_is
 
     -- A second call with the buffer that the first call left gives the same outcome and leaves the same bytes.
     again_by : (o : Outcome) → (solve_of s b).outcome ≡ o → solve_of s (solve_of s b).buffer ≡ solve_of s b
-    again_by (Refused n) e = ap (solve_of s) (when-refused s b h n e).0
-    again_by (RefusedVoid v) e = ap (solve_of s) (when-void s b h v e).0
+    again_by (Refused n) e = ap (solve_of s) (when_refused s b h n e).0
+    again_by (RefusedVoid v) e = ap (solve_of s) (when_void s b h v e).0
     again_by (Answered n) e =
-        let w = when-answered s b h n e in
-        let long : answer_room ≤ length over = omega (arith, h, over-long) in
+        let w = when_answered s b h n e in
+        let long : answer_room ≤ length over = omega (arith, h, over_long) in
         let same = same_outcome over b long h in
-        let v = when-answered s over long n (same ∙ e) in
+        let v = when_answered s over long n (same ∙ e) in
         ap (solve_of s) w.0 ∙ both (solve_of s over) (solve_of s b) same (v.0 ∙ twice ∙ sym w.0)
       where
         both : (x y : Solved) → x.outcome ≡ y.outcome → x.buffer ≡ y.buffer → x ≡ y
@@ -94,66 +94,66 @@ module _ (s : List ℕ) where
 
     -- What `write_record` leaves in the buffer if the record is that of a refusal: the refusal, and then the old bytes.
     module _ (r : Refusal) (e : record_of s ≡ refusal_bytes r) where
-      refusal-sized : (output_of s b).size ≡ refusal_size r.number
-      refusal-sized = ap (λ (x : Output). x.size) (has_room s b h) ∙ ap length e ∙ refusal_length r
+      refusal_sized : (output_of s b).size ≡ refusal_size r.number
+      refusal_sized = ap (λ (x : Output). x.size) (has_room s b h) ∙ ap length e ∙ refusal_length r
 
-      refusal-left : (output_of s b).buffer ≡ refusal_bytes r ++ drop (refusal_size r.number) b
-      refusal-left =
+      refusal_left : (output_of s b).buffer ≡ refusal_bytes r ++ drop (refusal_size r.number) b
+      refusal_left =
           let long = refusal_length r in
           ap (λ (x : Output). x.buffer) (has_room s b h)
           ∙ ap (written b) e
           ∙ laid b (refusal_bytes r) (omega (arith, long, refusal_room r.number, h))
           ∙ ap (λ (m : ℕ). refusal_bytes r ++ drop m b) long
 
-    refused-record : (n : ℕ) → (solve_of s b).outcome ≡ Refused n →
+    refused_record : (n : ℕ) → (solve_of s b).outcome ≡ Refused n →
         let r = cond (eqb n 1) (refusal_with 0 0 n) (refusal_with (job_of s) (revision_of s) n) in
         (n ≡ void_number → ⊥) × ((output_of s b).size ≡ head_size) × ((output_of s b).buffer ≡ refusal_bytes r ++ drop head_size b)
     unfolding refusal_for
-    refused-record n e =
+    refused_record n e =
         let r = refusal_for s n in
-        let bytes = (when-refused s b h n e).1 in
+        let bytes = (when_refused s b h n e).1 in
         let other = plain_other s b n e in
         let size : refusal_size r.number ≡ head_size = ap (λ (m : ℕ). refusal_size m) (number_for s n) ∙ other_refusal_size n other in (
           other,
-          refusal-sized r bytes ∙ size,
-          refusal-left r bytes ∙ ap (λ (m : ℕ). refusal_bytes r ++ drop m b) size,
+          refusal_sized r bytes ∙ size,
+          refusal_left r bytes ∙ ap (λ (m : ℕ). refusal_bytes r ++ drop m b) size,
         )
 
-    void-record : (v : VoidStation) → (solve_of s b).outcome ≡ RefusedVoid v →
+    void_record : (v : VoidStation) → (solve_of s b).outcome ≡ RefusedVoid v →
         ((output_of s b).size ≡ void_refusal_size) × ((output_of s b).buffer ≡ refusal_bytes (void_refusal s v) ++ drop void_refusal_size b)
     unfolding void_refusal_for
-    void-record v e =
-        let bytes = (when-void s b h v e).1 in
-        (refusal-sized (void_refusal_for s v) bytes, refusal-left (void_refusal_for s v) bytes)
+    void_record v e =
+        let bytes = (when_void s b h v e).1 in
+        (refusal_sized (void_refusal_for s v) bytes, refusal_left (void_refusal_for s v) bytes)
 
     -- The job, the revision, the station and the reason fit their fields, so reading the record gives them back.
-    void-held : (v : VoidStation) → (solve_of s b).outcome ≡ RefusedVoid v → AreBytes s → RefusalHeld (void_refusal s v)
-    void-held v e bytes =
+    void_held : (v : VoidStation) → (solve_of s b).outcome ≡ RefusedVoid v → AreBytes s → RefusalHeld (void_refusal s v)
+    void_held v e bytes =
         record {
           job = number_lt JOB.width JOB.offset s bytes;
           revision = number_lt REVISION.width REVISION.offset s bytes;
           number = omega arith;
-          station = station-fits (problem_from s) v (void-seen s b v e);
+          station = station_fits (problem_from s) v (void_seen s b v e);
           reason = omega (arith, number_most v.reason);
           absent = λ other. absurd (other refl);
         }
 
-    void-read : (v : VoidStation) → (solve_of s b).outcome ≡ RefusedVoid v → AreBytes s →
+    void_read_lem : (v : VoidStation) → (solve_of s b).outcome ≡ RefusedVoid v → AreBytes s →
         refusal_of (output_of s b).buffer ≡ void_refusal s v
-    void-read v e bytes =
-        ap refusal_of (void-record v e).1 ∙ refusal_back (void_refusal s v) (drop void_refusal_size b) (void-held v e bytes)
+    void_read_lem v e bytes =
+        ap refusal_of (void_record v e).1 ∙ refusal_back (void_refusal s v) (drop void_refusal_size b) (void_held v e bytes)
 
     pub recording : Recording s b
     recording =
         let r = has_room s b h in
         record {
           answered = λ n e.
-              let w = when-answered s b h n e in
+              let w = when_answered s b h n e in
               (ap (λ (x : Output). x.size) r ∙ w.1, ap (λ (x : Output). x.buffer) r ∙ sym w.0);
-          refused = refused-record;
-          void = void-record;
-          void_read = void-read;
-          size = record-size s b h;
+          refused = refused_record;
+          void = void_record;
+          void_read = void_read_lem;
+          size = record_size s b h;
           fits = record_short s;
           starts = record_first s b h;
           again = again_by (solve_of s b).outcome refl;

@@ -1,5 +1,5 @@
 -- The numbers in an answer fit their fields on the wire, so reading the answer gives back what was written. For an entry
--- (`entry-held`): its lower end is between two places of the grid, and it has at most 20 halvings. For the head (`head-held`): its job
+-- (`entry_held`): its lower end is between two places of the grid, and it has at most 20 halvings. For the head (`head_held`): its job
 -- and revision come from a question that consists of bytes.
 use mathlib.Core.Path.{◌≡◌, refl}
 use mathlib.Core.Bool.{Bool, true, false, cond}
@@ -18,14 +18,14 @@ use Rattle.little_endian.proofs.Numbers.{number_lt}
 use Rattle.records.specs.Layout.{JOB, REVISION, most_entries}
 use Rattle.records.specs.Records.{question_of, answer_head_of}
 use Rattle.records.specs.Ranges.{HeadHeld, EntryHeld}
-use Rattle.records.proofs.Reading.{answer-held}
+use Rattle.records.proofs.Reading.{answer_held}
 use Rattle.entrance.specs.declared.Problem.{Problem}
 use Rattle.stations.proofs.Grids.{grid_room}
 use Rattle.crossing_laws.specs.Listed.{Listed}
 use Rattle.entries.proofs.Ends.{bracket_entry_held}
 use Rattle.solver.specs.Crossed.{search_of, grid_of}
 use Rattle.demand_laws.specs.Demand.{IsCrossing, bracket_at, entry_at}
-use Rattle.demand_laws.proofs.Answered.{bracket-of}
+use Rattle.demand_laws.proofs.Answered.{bracket_of_lem}
 
 -- ---- `mag` of a place between two others is at most the sum of their `mag`s
 
@@ -66,10 +66,10 @@ mag_between a x y b k m n e f g =
 -- ---- an entry
 
 module _ (p : Problem) where
-  lower-held : (i : ℕ) → IsCrossing p i → SFits w64 (bracket_at p i).lower
-  lower-held i c =
+  lower_held : (i : ℕ) → IsCrossing p i → SFits w64 (bracket_at p i).lower
+  lower_held i c =
       let r = bracket_at p i in
-      let b = bracket-of p i c in
+      let b = bracket_of_lem p i c in
       let low = (grid_of p).place i in
       let high = (grid_of p).place (i + 1) in
       let between : mag r.lower ≤ mag low + mag high =
@@ -78,19 +78,20 @@ module _ (p : Problem) where
       let high-room = grid_room (search_of p) (i + 1) (omega (arith, c.within)) in
       record { sfits = omega (arith, between, low-room, high-room) }
 
-  pub entry-held : (i : ℕ) → IsCrossing p i → EntryHeld (entry_at p i)
-  entry-held i c =
-      let small : (bracket_at p i).halvings < 2 ^ 32 = omega (arith, (bracket-of p i c).most) in
-      bracket_entry_held p (bracket_at p i) (lower-held i c) small
+  pub entry_held : (i : ℕ) → IsCrossing p i → EntryHeld (entry_at p i)
+  entry_held i c =
+      let small : (bracket_at p i).halvings < 2 ^ 32 = omega (arith, (bracket_of_lem p i c).most) in
+      bracket_entry_held p (bracket_at p i) (lower_held i c) small
 
 -- ---- the head
 
-pub head_held : (s : List ℕ) (n : ℕ) → AreBytes s → n ≤ most_entries → HeadHeld (answer_head_of (question_of s).job (question_of s).revision n)
+pub head_held : (s : List ℕ) (n : ℕ) → AreBytes s → n ≤ most_entries
+    → HeadHeld (answer_head_of (question_of s).job (question_of s).revision n)
 unfolding question_of
 head_held s n bytes few =
     let job = number_lt JOB.width JOB.offset s bytes in
     let revision = number_lt REVISION.width REVISION.offset s bytes in
-    answer-held (question_of s).job (question_of s).revision job revision n few
+    answer_held (question_of s).job (question_of s).revision job revision n few
 
 -- ---- the elements of a list are listed in it
 

@@ -1,5 +1,5 @@
--- What the four tests say if a given row from 11 to 14, or none of them, is the first that applies (`is_none` to `only-four`), and the
--- first check that applies in two lists of checks joined together (`first-append`).
+-- What the four tests say if a given row from 11 to 14, or none of them, is the first that applies (`is_none` to `only_four`), and the
+-- first check that applies in two lists of checks joined together (`first_append`).
 use mathlib.Core.Path.{◌≡◌, refl, sym}
 use mathlib.Core.Bool.{Bool, true, false, cond}
 use mathlib.Core.Logic.{◌⊎◌, inl, inr}
@@ -55,7 +55,8 @@ only_four false v false false k e h = inr (inr (inr (sym e)))
 only_four false v false true k e h = absurd (omega (arith, e, h))
 
 -- ---- the first check that applies in two joined lists: it is in the second list if none in the first applies
-pub first_append : (low : ℕ) (xs ys : List Check) → Rising low xs → first_of (xs ++ ys) ≡ cond (eqb (first_of xs) 0) (first_of ys) (first_of xs)
+pub first_append : (low : ℕ) (xs ys : List Check) → Rising low xs
+    → first_of (xs ++ ys) ≡ cond (eqb (first_of xs) 0) (first_of ys) (first_of xs)
 unfolding first_of
 first_append low [] ys none = refl
 first_append low (c ∷ cs) ys (more l r) = by c.applies (first_append c.number cs ys r)

@@ -1,6 +1,6 @@
--- Refusals with a station. A report about places of which some is void names a station (`named-void`), and a refusal has the station of the
--- report (`station-seen`). That station is the first void one of the problem's search (`first-void`), and its j fits in an
--- i32 (`station-fits`).
+-- Refusals with a station. A report about places of which some is void names a station (`named_void`), and a refusal has the station of the
+-- report (`station_seen`). That station is the first void one of the problem's search (`first_void`), and its j fits in an
+-- i32 (`station_fits`).
 use mathlib.Core.Path.{◌≡◌, refl, sym, ap}
 use mathlib.Core.Bool.{Bool, true, false, cond}
 use Prim.Native.Nat.{ℕ}
@@ -17,8 +17,8 @@ use Rattle.sweep.specs.declared.walks.Walk.{Walk}
 use Rattle.sweep.specs.declared.walks.Walk.TheVariants.{AllTimed, SomeVoid, NinthFound}
 use Rattle.sweep.proofs.Reports.{Agrees, none_void, some_void_lem}
 use Rattle.crossing_laws.specs.FirstVoid.{IsFirstVoid, IsFirstVoidStation}
-use Rattle.crossing_laws.proofs.FirstVoids.{names-exactly}
-use Rattle.crossing_laws.proofs.VoidStations.{to-times, j-fits}
+use Rattle.crossing_laws.proofs.FirstVoids.{names_exactly}
+use Rattle.crossing_laws.proofs.VoidStations.{to_times, j_fits}
 use Rattle.question_record.proofs.Recorded.{refusals_apart}
 use Rattle.solver.specs.declared.Outcome.TheVariants.{Refused, RefusedVoid}
 use Rattle.solver.specs.Crossed.{search_of, sides_of, seen_of}
@@ -43,10 +43,10 @@ station_seen n NinthFound v e = refusals_apart (sym e)
 module _ (p : Problem) (station : VoidStation) (e : seen_of p ≡ SomeVoid station) where
   first : IsFirstVoid (side_at (search_of p)) (grid_for (search_of p)) (last_for (search_of p)) station
   unfolding seen_of sides_of
-  first = (names-exactly (side_at (search_of p)) (grid_for (search_of p)) (last_for (search_of p)) station).0 e
+  first = (names_exactly (side_at (search_of p)) (grid_for (search_of p)) (last_for (search_of p)) station).0 e
 
-  pub first-void : IsFirstVoidStation (search_of p) station
-  first-void = to-times (search_of p) station first
+  pub first_void_lem : IsFirstVoidStation (search_of p) station
+  first_void_lem = to_times (search_of p) station first
 
-  pub station-fits : SFits w32 station.j
-  station-fits = j-fits (search_of p) station first
+  pub station_fits : SFits w32 station.j
+  station_fits = j_fits (search_of p) station first

@@ -1,6 +1,7 @@
 -- The demands on `solve_of`, which takes bytes and gives bytes: first each demand that 01 refers to by number, and at the end all of them
 -- together (`Demanded`). In these definitions s is the question and b is the answer buffer. Definitions only.
-use Rattle.std.specs.Prelude.{◌≡◌, Bool, true, false, cond, not, ◌⊎◌, List, ◌++◌, map, ℕ, ◌+◌, ◌-◌, ◌^◌, ◌≤◌, ◌<◌, eqb, pos, ◌+ℤ◌, Float, length, get_or, take, drop}
+use Rattle.std.specs.Prelude.{◌≡◌, Bool, true, false, cond, not, ◌⊎◌, List, ◌++◌, map, ℕ, ◌+◌, ◌-◌, ◌^◌, ◌≤◌, ◌<◌, eqb, pos, ◌+ℤ◌, Float}
+use Rattle.std.specs.Prelude.{length, get_or, take, drop}
 use Rattle.question_record.specs.Record.{record_of, output_of}
 use Rattle.float64.specs.Notation.{◌≺◌, 0F, 1F}
 use Rattle.float64.specs.Value.{finite_of, magnitude_of}

@@ -4,10 +4,8 @@ use mathlib.Core.Path.{◌≡◌, refl}
 use mathlib.Core.Bool.{true, false}
 use mathlib.Core.List.{List, [], ◌∷◌, ◌++◌}
 use Prim.Native.Nat.{ℕ, ◌+◌}
-use lib.Ieee.{of_bits}
 use lib.ListN.{replicate}
 use Rattle.float64.specs.Notation.{bits}
-use Rattle.float64.specs.declared.Vector.{Vector}
 use Rattle.little_endian.specs.Bytes.{bytes_of, number_at}
 use Rattle.records.specs.Layout.{head_size, entry_size, V1X}
 use Rattle.records.specs.Records.{entry_of}

@@ -1,9 +1,9 @@
--- `read` accepts exactly the messages (`reads-exactly`), and a message has one set of texts and numbers (`one-message`). Both follow
--- from the values that a message has in its template (`message-values`) and from the texts of well-formed decimals.
+-- `read` accepts exactly the messages (`reads_exactly`), and a message has one set of texts and numbers (`one_message`). Both follow
+-- from the values that a message has in its template (`message_values`) and from the texts of well-formed decimals.
 use mathlib.Core.Path.{◌≡◌, refl, sym, ap, ◌∙◌, subst}
-use mathlib.Core.Bool.{Bool, true, false, cond, ◌&&◌, false≢true, true≢false}
+use mathlib.Core.Bool.{Bool, true, false, cond}
 use mathlib.Core.List.{List, [], ◌∷◌, ◌++◌, map}
-use Prim.Native.Nat.{ℕ, zero, suc, ◌+◌, ◌-◌}
+use Prim.Native.Nat.{ℕ}
 use native.Mathlib.Omega.{arith}
 use borrow.Author.Tests.{eqb-true, eq-eqb}
 use lib.Dec.{eqb}
@@ -11,19 +11,18 @@ use lib.ListN.{length, take, drop, length-drop, length-map, take-append-drop}
 use lib.Seq.{take_at, drop_at, length-take-le}
 use Rattle.decimal.specs.Texts.{text_of, decimal_in, is_well_formed, is_decimal_text}
 use Rattle.decimal.specs.declared.Decimal.{Decimal}
-use Rattle.decimal_laws.proofs.Parsing.{decimal_in_text, one_decimal, is_text, text_shown}
+use Rattle.decimal_laws.proofs.Parsing.{decimal_in_text, is_text, text_shown}
 use Rattle.orbit_message.specs.Templates.{Values, found, no_match, values_in}
 use Rattle.orbit_message.specs.Texts.{every, is_legal, are_texts}
 use Rattle.orbit_message.specs.Messages.{keys, version, lines, message_of, template}
 use Rattle.orbit_message.specs.Reading.{vector_in, state_in, are_values, result_for, read_of}
 use Rattle.orbit_message.specs.States.{state_numbers}
 use Rattle.orbit_message.specs.declared.states.State as state
-use Rattle.orbit_message.specs.declared.reader.ReadResult.{ReadResult}
 use Rattle.orbit_message.specs.declared.reader.ReadResult.TheVariants.{State, Refused}
 use Rattle.orbit_message.proofs.EveryElement.{both}
 use Rattle.orbit_message.proofs.TemplateValues.{zero_is_one, values_sound, values_complete}
 use Rattle.orbit_message.proofs.MessageTemplate.{message_filled, values_end_lines, fourteen_placeholders}
-use Rattle.orbit_message.proofs.ValueLines.{all_one_line, fourteen-values}
+use Rattle.orbit_message.proofs.ValueLines.{all_one_line, fourteen_values}
 use Rattle.message_laws.specs.Exactness.{IsMessage, ReadsExactly}
 
 -- Eight legal texts.
@@ -91,7 +90,7 @@ pub message_values : (s : List ℕ) (ts : List (List ℕ)) (ns : List Decimal) �
 unfolding message_of
 message_values s ts ns m =
     let values = ts ++ map text_of ns in
-    let many = fourteen-values ts ns m.legal m.six in
+    let many = fourteen_values ts ns m.legal m.six in
     values_complete template s values values_end_lines
     (record {
       as_many = many ∙ sym fourteen_placeholders;
@@ -202,8 +201,8 @@ pub written_again : (s : List ℕ) (n : state.State) (ts : List (List ℕ)) (ns 
     message_of ts (state_numbers n) ≡ s
 written_again s n ts ns e m =
     let read = complete s ts ns m in
-    let same : read.0 ≡ n = state-of (sym read.1 ∙ e) in
+    let same : read.0 ≡ n = state_of_lem (sym read.1 ∙ e) in
     ap (λ (x : state.State). message_of ts (state_numbers x)) (sym same) ∙ ap (message_of ts) read.2 ∙ sym m.same
   where
-    state-of : {a b : state.State} → State a ≡ State b → a ≡ b
-    state-of f = cc
+    state_of_lem : {a b : state.State} → State a ≡ State b → a ≡ b
+    state_of_lem f = cc

@@ -1,22 +1,22 @@
--- Every message has 248 to 762 bytes (`length-bounds`): 174 bytes of keys, version, blanks, equals signs and LFs, eight texts of 1 to 60
+-- Every message has 248 to 762 bytes (`length_bounds`): 174 bytes of keys, version, blanks, equals signs and LFs, eight texts of 1 to 60
 -- bytes and six numbers of 11 to 18 bytes.
 use mathlib.Core.Path.{◌≡◌, refl, sym, ap, ◌∙◌}
 use mathlib.Core.Bool.{true}
 use mathlib.Core.List.{List, [], ◌∷◌, ◌++◌, map}
-use Prim.Native.Nat.{ℕ, zero, suc, ◌+◌, ◌*◌, ◌≤◌}
+use Prim.Native.Nat.{ℕ, suc, ◌+◌, ◌*◌, ◌≤◌}
 use native.Mathlib.Nat.{suc_inj}
 use native.Mathlib.Omega.{arith}
-use borrow.Author.Tests.{leb-true, eqb-true}
-use lib.Dec.{eqb, leb}
-use lib.ListN.{length, get_or, length-append, length-map}
+use borrow.Author.Tests.{eqb-true}
+use lib.Dec.{eqb}
+use lib.ListN.{length, length-append}
 use Rattle.decimal.specs.Texts.{text_of}
 use Rattle.decimal.specs.declared.Decimal.{Decimal}
 use Rattle.decimal.proofs.TextBytes.{length_range}
 use Rattle.orbit_message.specs.Ascii.{ascii}
-use Rattle.orbit_message.specs.Texts.{every, is_printable, is_legal, are_texts}
+use Rattle.orbit_message.specs.Texts.{every, is_legal, are_texts}
 use Rattle.orbit_message.specs.Messages.{keys, version, line, lines, message_of}
 use Rattle.orbit_message.proofs.EveryElement.{both}
-use Rattle.orbit_message.proofs.ValueLines.{legal_facts, fourteen-values}
+use Rattle.orbit_message.proofs.ValueLines.{legal_facts, fourteen_values}
 use Rattle.message_laws.specs.Exactness.{IsMessage, LengthBounds}
 
 -- The sum of the lengths.
@@ -91,7 +91,7 @@ length_bounds s ts ns m =
     let values = ts ++ map text_of ns in
     let parts = both (eqb (length ts) 8) (every is_legal ts) m.legal in
     let eight = eqb-true (length ts) 8 parts.0 in
-    let many = fourteen-values ts ns m.legal m.six in
+    let many = fourteen_values ts ns m.legal m.six in
     let fifteen : length (version ∷ values) ≡ length keys = ap suc many ∙ sym keys_many in
     let size = ap length m.same ∙ lines_length keys (version ∷ values) fifteen in
     let sums = total_append ts (map text_of ns) in

@@ -1,27 +1,25 @@
--- `write` refuses exactly with the first condition that holds (`refuses-exactly`). The definition is a chain of conditions, so each field
+-- `write` refuses exactly with the first condition that holds (`refuses_exactly`). The definition is a chain of conditions, so each field
 -- is a case distinction over their five truth values.
 use mathlib.Core.Path.{◌≡◌, refl, sym, ap, ◌∙◌}
 use mathlib.Core.Bool.{Bool, true, false, cond, not, ◌||◌}
-use mathlib.Core.List.{List, [], ◌∷◌, ◌++◌}
+use mathlib.Core.List.{List, [], ◌∷◌}
 use Prim.Native.Nat.{ℕ}
-use native.Mathlib.Omega.{arith}
 use lib.Dec.{eqb}
-use lib.ListN.{length, drop}
 use Rattle.float64.specs.declared.Vector.{Vector}
 use Rattle.decimal.specs.Decimals.{is_in_range}
 use Rattle.little_endian.specs.Bytes.{has_room, written}
 use Rattle.records.specs.Layout.{refusal_kind, kind_of, number_of}
 use Rattle.outcomes.specs.Outcomes.{is_between, is_outcome}
 use Rattle.orbit_message.specs.Texts.{every, texts_in, are_texts}
-use Rattle.orbit_message.specs.Writing.{Result, refusal, put_of, write_of}
+use Rattle.orbit_message.specs.Writing.{Result, put_of, write_of}
 use Rattle.orbit_message.specs.declared.writer.WriteResult.TheVariants.{Message, Refused}
 use Rattle.orbit_message.proofs.TemplateValues.{zero_is_one}
 use Rattle.message_laws.specs.Refusals.{Condition, condition, first_that_holds, numbers, message, conditions}
-use Rattle.message_laws.specs.Refusals.{resultOfFirst, RefusesExactly}
+use Rattle.message_laws.specs.Refusals.{result_of_first, RefusesExactly}
 
 module _ (answer : List ℕ) (entry : ℕ) (r1 : Vector) (texts out : List ℕ) where
   abbrev result : ℕ → Result
-  result k = resultOfFirst answer entry r1 texts out k
+  result k = result_of_first answer entry r1 texts out k
 
   -- The chain of the definition, and the list of conditions, for any five truth values.
   abbrev chain : Bool → Bool → Bool → Bool → Bool → Result
@@ -48,14 +46,14 @@ module _ (answer : List ℕ) (entry : ℕ) (r1 : Vector) (texts out : List ℕ) 
   refused false false false false true k h = cc
   refused false false false false false k h = zero_is_one (cc)
 
-  put-message : (a b c d e : Bool) (n : ℕ) → (chain a b c d e).result ≡ Message n → first_that_holds (listed a b c d e) ≡ 0
+  put_message : (a b c d e : Bool) (n : ℕ) → (chain a b c d e).result ≡ Message n → first_that_holds (listed a b c d e) ≡ 0
   unfolding first_that_holds
-  put-message true b c d e n h = zero_is_one (cc)
-  put-message false true c d e n h = zero_is_one (cc)
-  put-message false false true d e n h = zero_is_one (cc)
-  put-message false false false true e n h = zero_is_one (cc)
-  put-message false false false false true n h = zero_is_one (cc)
-  put-message false false false false false n h = refl
+  put_message true b c d e n h = zero_is_one (cc)
+  put_message false true c d e n h = zero_is_one (cc)
+  put_message false false true d e n h = zero_is_one (cc)
+  put_message false false false true e n h = zero_is_one (cc)
+  put_message false false false false true n h = zero_is_one (cc)
+  put_message false false false false false n h = refl
 
   -- The five truth values.
   abbrev b1 : Bool
@@ -80,18 +78,18 @@ module _ (answer : List ℕ) (entry : ℕ) (r1 : Vector) (texts out : List ℕ) 
   last true e = rw e
   last false e = rw e
 
-  is-chain : write_of answer entry r1 texts out ≡ chain b1 b5 b6 b7 b8
+  is_chain : write_of answer entry r1 texts out ≡ chain b1 b5 b6 b7 b8
   unfolding write_of
-  is-chain =
+  is_chain =
       let room = has_room out (message answer entry r1 texts out) in
       ap (λ (r : Result). cond b1 (result 1) (cond b5 (result 5) (cond b6 (result 6) (cond b7 (result 7) r)))) (last room refl)
 
-  pub refuses-exactly : RefusesExactly answer entry r1 texts out
+  pub refuses_exactly : RefusesExactly answer entry r1 texts out
   unfolding conditions
-  refuses-exactly =
-      let told = sym (ap (λ (r : Result). r.result) is-chain) in
+  refuses_exactly =
+      let told = sym (ap (λ (r : Result). r.result) is_chain) in
       record {
-        result-is = is-chain ∙ first b1 b5 b6 b7 b8;
+        result_is = is_chain ∙ first b1 b5 b6 b7 b8;
         refused = λ k e. refused b1 b5 b6 b7 b8 k (told ∙ e);
-        written = λ n e. put-message b1 b5 b6 b7 b8 n (told ∙ e);
+        written = λ n e. put_message b1 b5 b6 b7 b8 n (told ∙ e);
       }

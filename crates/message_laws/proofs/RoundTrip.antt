@@ -1,12 +1,12 @@
--- The reader after the writer (`reads-back`). If `write` writes a message, no condition of a refusal holds, so the texts are legal and the
--- numbers are in range (`is-written`), and `read` accepts the message and returns its numbers.
-use mathlib.Core.Path.{◌≡◌, refl, sym, ap, ◌∙◌, subst}
-use mathlib.Core.Bool.{Bool, true, false, cond, not, ◌&&◌}
-use mathlib.Core.List.{List, [], ◌∷◌, ◌++◌, map}
+-- The reader after the writer (`reads_back`). If `write` writes a message, no condition of a refusal holds, so the texts are legal and the
+-- numbers are in range (`is_written`), and `read` accepts the message and returns its numbers.
+use mathlib.Core.Path.{◌≡◌, refl, sym, ap, ◌∙◌}
+use mathlib.Core.Bool.{Bool, true, false, not}
+use mathlib.Core.List.{List, [], ◌∷◌, map}
 use Prim.Native.Nat.{ℕ}
 use native.Mathlib.Omega.{arith}
 use borrow.Author.Tests.{not-false}
-use lib.Dec.{T, ltb}
+use lib.Dec.{T}
 use lib.Ieee.{Float, binary64, fits}
 use lib.Ieee.Bits.{of_bits-fits}
 use lib.ListN.{length, take, drop}
@@ -19,7 +19,7 @@ use Rattle.records.specs.Ranges.{VectorHeld}
 use Rattle.records.specs.Records.{entry_of}
 use Rattle.orbit_message.specs.Texts.{every, texts_in, are_texts}
 use Rattle.orbit_message.specs.Reading.{read_of}
-use Rattle.orbit_message.specs.Writing.{components, departure_velocity, Result, write_of}
+use Rattle.orbit_message.specs.Writing.{departure_velocity, Result, write_of}
 use Rattle.orbit_message.specs.States.{state_numbers}
 use Rattle.orbit_message.specs.declared.states.State as state
 use Rattle.orbit_message.specs.declared.reader.ReadResult.TheVariants.{State}
@@ -27,8 +27,8 @@ use Rattle.orbit_message.specs.declared.writer.WriteResult.TheVariants.{Message}
 use Rattle.orbit_message.proofs.EveryElement.{both}
 use Rattle.message_laws.specs.Exactness.{IsMessage}
 use Rattle.message_laws.specs.RoundTrip.{ReadsBack}
-use Rattle.message_laws.specs.Refusals.{Condition, condition, first_that_holds, numbers, message, conditions, resultOfFirst}
-use Rattle.message_laws.proofs.Refusals.{refuses-exactly}
+use Rattle.message_laws.specs.Refusals.{Condition, condition, first_that_holds, numbers, message, conditions, result_of_first}
+use Rattle.message_laws.proofs.Refusals.{refuses_exactly}
 use Rattle.message_laws.proofs.Exactness.{reads_exactly}
 
 -- ---- no condition holds
@@ -69,9 +69,9 @@ module _ (answer : List ℕ) (entry : ℕ) (r1 : Vector) (texts out : List ℕ) 
     (held.y, (held.z, (of_bits-fits binary64 _, (of_bits-fits binary64 _, (of_bits-fits binary64 _, tt))))),
   )
 
-  pub is-written : first_that_holds (conditions answer entry r1 texts out) ≡ 0 → IsMessage text (texts_in texts) (map decimal_of six)
+  pub is_written : first_that_holds (conditions answer entry r1 texts out) ≡ 0 → IsMessage text (texts_in texts) (map decimal_of six)
   unfolding conditions
-  is-written e =
+  is_written e =
       let after-b1 = none_of _ 1 _ (λ z. omega arith) e in
       let after-b5 = none_of (not (are_texts (texts_in texts))) 5 _ (λ z. omega arith) after-b1.1 in
       let after-b6 = none_of _ 6 _ (λ z. omega arith) after-b5.1 in
@@ -83,17 +83,18 @@ module _ (answer : List ℕ) (entry : ℕ) (r1 : Vector) (texts out : List ℕ) 
         same = refl;
       }
 
-  pub reads-back : ReadsBack answer entry r1 texts out
-  reads-back = record { back = back }
+  pub reads_back : ReadsBack answer entry r1 texts out
+  reads_back = record { back = back }
     where
       back : (n : ℕ) → (write_of answer entry r1 texts out).result ≡ Message n →
-          (s : state.State) × (read_of (take n (write_of answer entry r1 texts out).buffer) ≡ State s) × (state_numbers s ≡ map decimal_of six)
+          (s : state.State) × (read_of (take n (write_of answer entry r1 texts out).buffer) ≡ State s)
+          × (state_numbers s ≡ map decimal_of six)
       back n e =
-          let law = refuses-exactly answer entry r1 texts out in
+          let law = refuses_exactly answer entry r1 texts out in
           let none = law.written n e in
-          let whole = law.result-is ∙ ap (resultOfFirst answer entry r1 texts out) none in
+          let whole = law.result_is ∙ ap (result_of_first answer entry r1 texts out) none in
           let told : Message (length text) ≡ Message n = sym (ap (λ (r : Result). r.result) whole) ∙ e in
           let size : length text ≡ n = cc in
           let buffer = ap (λ (r : Result). take n r.buffer) whole ∙ take_at text (drop (length text) out) n size in
-          let read = (reads_exactly text).complete (texts_in texts) (map decimal_of six) (is-written none) in
+          let read = (reads_exactly text).complete (texts_in texts) (map decimal_of six) (is_written none) in
           (read.0, ap read_of buffer ∙ read.1, read.2)

@@ -43,13 +43,13 @@ module _ (answer : List ℕ) (entry : ℕ) (r1 : Vector) (texts out : List ℕ) 
       ∷ []
 
   -- The result if k is the number of the first condition that holds, or 0.
-  abbrev pub resultOfFirst : ℕ → Result
-  resultOfFirst zero = record { result = Message (length message); buffer = message ++ drop (length message) out }
-  resultOfFirst (suc k) = refusal (suc k) out
+  abbrev pub result_of_first : ℕ → Result
+  result_of_first zero = record { result = Message (length message); buffer = message ++ drop (length message) out }
+  result_of_first (suc k) = refusal (suc k) out
 
   -- `write` refuses with a number exactly if the condition with this number is the first that holds, and then the buffer is unchanged. If
   -- no condition holds, and only then, it writes the message.
   pub record RefusesExactly : Type 0 where
-    pub result-is : write_of answer entry r1 texts out ≡ resultOfFirst (first_that_holds conditions)
+    pub result_is : write_of answer entry r1 texts out ≡ result_of_first (first_that_holds conditions)
     pub refused : (k : ℕ) → (write_of answer entry r1 texts out).result ≡ Refused k → first_that_holds conditions ≡ k
     pub written : (n : ℕ) → (write_of answer entry r1 texts out).result ≡ Message n → first_that_holds conditions ≡ 0

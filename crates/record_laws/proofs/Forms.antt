@@ -1,4 +1,4 @@
--- The record of every question has one of the four forms of `RecordForm` (`record-form`). The proof splits on the
+-- The record of every question has one of the four forms of `RecordForm` (`record_form`). The proof splits on the
 -- verdict of the entrance checks and, for an accepted question, on the first of the numbers 11 to 14 that applies, if
 -- any. Number 12 applies only if some station is void, and then the report about the stations names one.
 use mathlib.Core.Path.{◌≡◌, refl, sym, ap, ◌∙◌, subst}
@@ -24,7 +24,7 @@ use Rattle.entrance.specs.Table.{applies_in, condition_of}
 use Rattle.entrance.specs.declared.Problem.{Problem}
 use Rattle.entrance.specs.declared.Judged.{Judged}
 use Rattle.entrance.specs.declared.Judged.TheVariants.{Refused, Accepted}
-use Rattle.entrance.proofs.Table.{refused-exactly, accepted-exactly, accepted-problem, only-ten}
+use Rattle.entrance.proofs.Table.{refused_exactly, accepted_exactly, accepted_problem, only_ten}
 use Rattle.bisection.specs.declared.Bracket.{Bracket}
 use Rattle.sweep.specs.declared.walks.Walk.{Walk}
 use Rattle.sweep.proofs.Counts.{length_is}
@@ -35,7 +35,7 @@ use Rattle.solver.specs.Crossed.{sides_of, grid_of, last_place, seen_of, bracket
 use Rattle.solver.specs.Table.{crossing_count, any_void, all_finite, late_checks}
 use Rattle.solver.specs.Solve.{late_refusal, outcome_for}
 use Rattle.solver.specs.declared.Outcome.TheVariants.{Answered}
-use Rattle.solver.proofs.Numbering.{rows, rows_are, report-agrees, few}
+use Rattle.solver.proofs.Numbering.{rows, rows_are, report_agrees, few}
 use Rattle.record_laws.specs.RecordForm.{RecordForm, not_question_lem, refusal, void_refusal_lem, answer}
 use Rattle.record_laws.proofs.VoidStations.{void_station}
 
@@ -75,28 +75,29 @@ module _ (p : Problem) where
       let some = some_crossing (eqb (crossing_count p) 0) (any_void p) (ltb most_entries (crossing_count p)) (all_finite p) row in
       lt_of_not-le (λ h. eqb-false (crossing_count p) 0 some (omega (arith, h, size_is)))
 
-  at-most-eight : first_of (late_checks p) ≡ 0 → length (entries_of p) ≤ most_entries
-  at-most-eight e = omega (arith, few p e, size_is)
+  at_most_eight : first_of (late_checks p) ≡ 0 → length (entries_of p) ≤ most_entries
+  at_most_eight e = omega (arith, few p e, size_is)
 
-  late-between : (first_of (late_checks p) ≡ 0 → ⊥) → (first_number < first_of (late_checks p)) × (first_of (late_checks p) ≤ last_number)
-  late-between h =
+  late_between : (first_of (late_checks p) ≡ 0 → ⊥) → (first_number < first_of (late_checks p)) × (first_of (late_checks p) ≤ last_number)
+  late_between h =
       rw (rows_are p)
-      (late_number_lem (eqb (crossing_count p) 0) (any_void p) (ltb most_entries (crossing_count p)) (all_finite p) (λ z. h (rows_are p ∙ z)))
+      (late_number_lem (eqb (crossing_count p) 0) (any_void p) (ltb most_entries (crossing_count p)) (all_finite p) (λ z. h (rows_are p
+      ∙ z)))
 
-  not-twelve : any_void p ≡ false → first_of (late_checks p) ≡ void_number → ⊥
-  not-twelve timed e =
+  not_twelve : any_void p ≡ false → first_of (late_checks p) ≡ void_number → ⊥
+  not_twelve timed e =
       let row = sym (rows_are p) ∙ e in
       let void = twelve_void (eqb (crossing_count p) 0) (any_void p) (ltb most_entries (crossing_count p)) (all_finite p) row in
       true≢false (sym void ∙ timed)
 
   -- The chosen end of each entry is 0 or 1.
-  each-names : (rs : List Bracket) (e : Entry) → Memᴰ e (map (entry_for p) rs) → e.chosen ≤ 1
-  each-names [] e m = absurd (in-none m)
-  each-names (r ∷ rs) e m = ⊎_elim (λ here. rw here (entry_names p r)) (λ there. each-names rs e there) (in-first m)
+  each_names : (rs : List Bracket) (e : Entry) → Memᴰ e (map (entry_for p) rs) → e.chosen ≤ 1
+  each_names [] e m = absurd (in-none m)
+  each_names (r ∷ rs) e m = ⊎_elim (λ here. rw here (entry_names p r)) (λ there. each_names rs e there) (in-first m)
 
   all_name : (e : Entry) → Memᴰ e (entries_of p) → e.chosen ≤ 1
   unfolding entries_of
-  all_name = each-names (brackets_of p)
+  all_name = each_names (brackets_of p)
 
 -- ---- questions to which number 1 does not apply
 
@@ -106,79 +107,80 @@ or_true false = refl
 
 module _ (s : List ℕ) where
   -- Number 1 applies to job 0, so any question to which it does not apply has another job.
-  zero-malformed : job_of s ≡ 0 → condition_of s answer_room 1 ≡ true
+  zero_malformed : job_of s ≡ 0 → condition_of s answer_room 1 ≡ true
   unfolding condition_of applies_in checks malformed question_of
-  zero-malformed e = simp (e, or_true)
+  zero_malformed e = simp (e, or_true)
 
   past_one : condition_of s answer_room 1 ≡ false → 0 < job_of s
-  past_one e = lt_of_not-le (λ h. true≢false (sym (zero-malformed (omega (arith, h))) ∙ e))
+  past_one e = lt_of_not-le (λ h. true≢false (sym (zero_malformed (omega (arith, h))) ∙ e))
 
   -- ---- the record
 
-  refusal-form : (n : ℕ) → first_number < n → n ≤ last_number → (n ≡ void_number → ⊥) → 0 < job_of s →
+  refusal_form : (n : ℕ) → first_number < n → n ≤ last_number → (n ≡ void_number → ⊥) → 0 < job_of s →
       RecordForm s (refusal_bytes (refusal_for s n))
   unfolding refusal_for
-  refusal-form n low high other job = rw (ne_eqb n 1 (λ e. omega (arith, e, low))) (refusal n low high other job)
+  refusal_form n low high other job = rw (ne_eqb n 1 (λ e. omega (arith, e, low))) (refusal n low high other job)
 
-  -- The question's own problem (`own`), and the number of the first entrance check that applies (`first-check`).
+  -- The question's own problem (`own`), and the number of the first entrance check that applies (`first_check`).
   abbrev own : Problem
   own = let q = question_of s in problem_of q (shape_of q.r1 q.r2 (is_long_way q))
 
-  abbrev first-check : ℕ
-  first-check = let q = question_of s in first_of (checks (length s) answer_room q (shape_of q.r1 q.r2 (is_long_way q)))
+  abbrev first_check : ℕ
+  first_check = let q = question_of s in first_of (checks (length s) answer_room q (shape_of q.r1 q.r2 (is_long_way q)))
 
   positive : (n : ℕ) → judge_of s answer_room ≡ Refused n → 0 < n
   unfolding judge_of
-  positive n e = by (eqb first-check 0) refl e
+  positive n e = by (eqb first_check 0) refl e
     where
-      by : (none : Bool) → eqb first-check 0 ≡ none → cond none (Accepted own) (Refused first-check) ≡ Refused n → 0 < n
+      by : (none : Bool) → eqb first_check 0 ≡ none → cond none (Accepted own) (Refused first_check) ≡ Refused n → 0 < n
       by true t f = absurd (let z : ◌≡◌ {A = ℕ} 0 1 = cc f in omega (arith, z))
-      by false t f = let same : first-check ≡ n = cc f in lt_of_not-le (λ h. eqb-false first-check 0 t (omega (arith, same, h)))
+      by false t f = let same : first_check ≡ n = cc f in lt_of_not-le (λ h. eqb-false first_check 0 t (omega (arith, same, h)))
 
   by_number : (n : ℕ) → judge_of s answer_room ≡ Refused n → (one : Bool) → eqb n 1 ≡ one → RecordForm s (refusal_bytes (refusal_for s n))
   unfolding refusal_for
   by_number n e true one = rw (eqb-true n 1 one) not_question_lem
   by_number n e false one =
-      let first = (refused-exactly s answer_room n (positive n e)).only e in
+      let first = (refused_exactly s answer_room n (positive n e)).only e in
       let other : n ≡ 1 → ⊥ = eqb-false n 1 one in
       let late : 1 < n = lt_of_not-le (λ h. other (omega (arith, h, positive n e))) in
-      let early : n ≤ 10 = (only-ten s answer_room n first.own).1 in
-      refusal-form n late (omega (arith, early)) (λ z. omega (arith, z, early)) (past_one (first.none_earlier 1 late))
+      let early : n ≤ 10 = (only_ten s answer_room n first.own).1 in
+      refusal_form n late (omega (arith, early)) (λ z. omega (arith, z, early)) (past_one (first.none_earlier 1 late))
 
   -- The number of the first of the rows 11 to 14 that applies, or 0.
-  abbrev late-row : ℕ
-  late-row = first_of (late_checks own)
+  abbrev late_row : ℕ
+  late_row = first_of (late_checks own)
 
-  late-form : (late-row ≡ 0 → ⊥) → 0 < job_of s → {seen : Walk} {void : Bool} → Agrees seen void → seen_of own ≡ seen → any_void own ≡ void →
-      (twelve : Bool) → eqb late-row void_number ≡ twelve → RecordForm s (outcome_record s own (late_refusal late-row seen))
+  late_form : (late_row ≡ 0 → ⊥) → 0 < job_of s → {seen : Walk} {void : Bool} → Agrees seen void → seen_of own ≡ seen
+      → any_void own ≡ void →
+      (twelve : Bool) → eqb late_row void_number ≡ twelve → RecordForm s (outcome_record s own (late_refusal late_row seen))
   unfolding problem_of question_of
-  late-form some job none_void e timed true t = absurd (not-twelve own timed (eqb-true late-row void_number t))
-  late-form some job none_void e timed false t =
-      let number = late-between own some in
-      refusal-form late-row number.0 number.1 (eqb-false late-row void_number t) job
-  late-form some job (some_void_lem station) e void true t = rw t (void_refusal_lem station (void_station own station e) job)
-  late-form some job (some_void_lem station) e void false t =
-      let number = late-between own some in
-      rw t (refusal-form late-row number.0 number.1 (eqb-false late-row void_number t) job)
+  late_form some job none_void e timed true t = absurd (not_twelve own timed (eqb-true late_row void_number t))
+  late_form some job none_void e timed false t =
+      let number = late_between own some in
+      refusal_form late_row number.0 number.1 (eqb-false late_row void_number t) job
+  late_form some job (some_void_lem station) e void true t = rw t (void_refusal_lem station (void_station own station e) job)
+  late_form some job (some_void_lem station) e void false t =
+      let number = late_between own some in
+      rw t (refusal_form late_row number.0 number.1 (eqb-false late_row void_number t) job)
 
-  by_row : 0 < job_of s → (none : Bool) → eqb late-row 0 ≡ none →
-      RecordForm s (outcome_record s own (cond none (Answered (length (entries_of own))) (late_refusal late-row (seen_of own))))
+  by_row : 0 < job_of s → (none : Bool) → eqb late_row 0 ≡ none →
+      RecordForm s (outcome_record s own (cond none (Answered (length (entries_of own))) (late_refusal late_row (seen_of own))))
   unfolding problem_of question_of
   by_row job true t =
-      let none = eqb-true late-row 0 t in
-      answer (entries_of own) (at_least_one own none) (at-most-eight own none) (all_name own) job
-  by_row job false t = late-form (eqb-false late-row 0 t) job (report-agrees own) refl refl (eqb late-row void_number) refl
+      let none = eqb-true late_row 0 t in
+      answer (entries_of own) (at_least_one own none) (at_most_eight own none) (all_name own) job
+  by_row job false t = late_form (eqb-false late_row 0 t) job (report_agrees own) refl refl (eqb late_row void_number) refl
 
-  accepted-form : judge_of s answer_room ≡ Accepted own → RecordForm s (record_after s (Accepted own))
+  accepted_form : judge_of s answer_room ≡ Accepted own → RecordForm s (record_after s (Accepted own))
   unfolding outcome_for
-  accepted-form e = by_row (past_one ((accepted-exactly s answer_room).only e 1)) (eqb late-row 0) refl
+  accepted_form e = by_row (past_one ((accepted_exactly s answer_room).only e 1)) (eqb late_row 0) refl
 
-  by-verdict : (j : Judged) → judge_of s answer_room ≡ j → RecordForm s (record_after s j)
-  by-verdict (Refused n) e = by_number n e (eqb n 1) refl
-  by-verdict (Accepted p) e =
-      let is-own : p ≡ own = accepted-problem s answer_room p e in
-      subst (λ (x : Problem). RecordForm s (record_after s (Accepted x))) (sym is-own) (accepted-form (e ∙ ap Accepted is-own))
+  by_verdict : (j : Judged) → judge_of s answer_room ≡ j → RecordForm s (record_after s j)
+  by_verdict (Refused n) e = by_number n e (eqb n 1) refl
+  by_verdict (Accepted p) e =
+      let is-own : p ≡ own = accepted_problem s answer_room p e in
+      subst (λ (x : Problem). RecordForm s (record_after s (Accepted x))) (sym is-own) (accepted_form (e ∙ ap Accepted is-own))
 
-  pub record-form : RecordForm s (record_of s)
+  pub record_form : RecordForm s (record_of s)
   unfolding record_of
-  record-form = by-verdict (judge_of s answer_room) refl
+  record_form = by_verdict (judge_of s answer_room) refl

@@ -1,6 +1,6 @@
--- Every refusal that is not malformed has the size and the length field of its number (`refusal-sizes`): the longer form goes with number
+-- Every refusal that is not malformed has the size and the length field of its number (`refusal_sizes`): the longer form goes with number
 -- 12 and with nothing else, both ways. So bytes of the kind of a refusal whose length field is not that of their number are malformed,
--- whatever the rest of them is (`wrong-length-malformed`). The proof takes the tests of `is_refusal` apart and splits on whether the number
+-- whatever the rest of them is (`wrong_length_malformed`). The proof takes the tests of `is_refusal` apart and splits on whether the number
 -- is 12.
 use mathlib.Core.Path.{◌≡◌, refl}
 use mathlib.Core.Bool.{Bool, true, false, ◌&&◌, cond}

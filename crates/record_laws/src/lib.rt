@@ -2,3 +2,4 @@
 // job 0 exactly if it is the refusal with number 1. Theorems about every refusal: its longer form goes with number 12
 // and with no other number. This crate contains definitions and theorems about `question_record`, `outcomes` and
 // `board`, and no code.
+#![tactic(auto)]
