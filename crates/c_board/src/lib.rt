@@ -1,5 +1,7 @@
 // The C interface to the board, for callers in other languages. A slice is a pointer and a length. The memory of a
 // board and that of a record must not overlap.
+#![tactic(auto)]
+
 ghost use Rattle.std.specs.Prelude.{◌≡◌};
 ghost use Rattle.board.specs.Board.{posted_number, post_of};
 

@@ -1,4 +1,4 @@
--- Numbers that are all stored in eight bytes are words (`packed-words`), and a state has eighteen of them (`eighteen`).
+-- Numbers that are all stored in eight bytes are words (`packed_words`), and a state has eighteen of them (`eighteen`).
 use mathlib.Core.Path.{◌≡◌, refl, ap}
 use mathlib.Core.List.{List, [], ◌∷◌, ◌++◌}
 use Prim.Native.Nat.{ℕ, zero, suc}

@@ -1,5 +1,7 @@
 // The C interface to the orbit messages, for callers in other languages. A slice is a pointer and a length. The memory of an answer, of
 // texts and of a buffer must not overlap. Every f64 is passed as its 64 bits.
+#![tactic(auto)]
+
 ghost use Rattle.std.specs.Prelude.{◌≡◌};
 ghost use Rattle.orbit_message.specs.Writing.{write_of};
 ghost use Rattle.c_message.specs.Numbers.{write_number, vector_of_bits, sign_number, state_words, stored_of, read_into};

@@ -1,5 +1,5 @@
 -- What the bits of `root_bits_of` represent: the root of the f64 with the bits b, which is correct in the sense of
--- `IsRoot` (`root-bits-law`). If the bits are all ones, the root is refused (`ones-refused`). The converse holds by
+-- `IsRoot` (`root_bits_law`). If the bits are all ones, the root is refused (`ones_refused`). The converse holds by
 -- definition.
 use mathlib.Core.Path.{◌≡◌, refl, sym, ap, ◌∙◌}
 use mathlib.Core.Bool.{true, true≢false}

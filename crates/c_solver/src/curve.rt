@@ -12,8 +12,7 @@ use records::ANSWER_ROOM;
 const REFUSED_BITS: u64 = 0xFFFF_FFFF_FFFF_FFFF;
 
 // Returns the bits of the wanted time, or all ones if the question does not pass the entrance checks.
-#[unsafe(no_mangle)]
-pub extern "C" fn lambert_wanted(question: &[u8]) -> u64
+pub fn lambert_wanted(question: &[u8]) -> u64
     ensures { result ≡ wanted_bits question.now }
 {
     match entrance::judge(question, ANSWER_ROOM) {
@@ -23,8 +22,7 @@ pub extern "C" fn lambert_wanted(question: &[u8]) -> u64
 }
 
 // Returns how many stations the question's grid has.
-#[unsafe(no_mangle)]
-pub extern "C" fn lambert_stations(question: &[u8]) -> u64
+pub fn lambert_stations(question: &[u8]) -> u64
     ensures { result ≡ station_count question.now }
 {
     match entrance::judge(question, ANSWER_ROOM) {
@@ -35,8 +33,7 @@ pub extern "C" fn lambert_stations(question: &[u8]) -> u64
 
 // Returns the place k of the station with index i, counted from 0, for any i. This station has j = i - 4095 and k = j * 2^20. See
 // `lambert_stations` for how many stations a question has.
-#[unsafe(no_mangle)]
-pub extern "C" fn lambert_station(i: u16) -> i64
+pub fn lambert_station(i: u16) -> i64
     ensures { result ≡ station_of i }
 {
     stations::station(i)
@@ -44,8 +41,7 @@ pub extern "C" fn lambert_station(i: u16) -> i64
 
 // Returns the bits of the time at the place k. If the place is void, the result is 0x7FF8_0000_0000_0000 plus the number of the reason. If
 // the question does not pass the entrance checks, all bits are ones.
-#[unsafe(no_mangle)]
-pub extern "C" fn lambert_time(question: &[u8], k: i64) -> u64
+pub fn lambert_time(question: &[u8], k: i64) -> u64
     ensures { result ≡ time_bits question.now k }
 {
     match entrance::judge(question, ANSWER_ROOM) {

@@ -1,11 +1,13 @@
 // The C interface to the solver, for hosts in other languages: it solves a question, and gives the values of its curve. A slice is a
 // pointer and a length. The memory of a question and of a buffer must not overlap.
+#![tactic(auto)]
+
 ghost use Rattle.std.specs.Prelude.{◌≡◌};
 ghost use Rattle.question_record.specs.Record.{output_of};
 ghost use Rattle.solver.specs.Solve.{solve_of};
 ghost use Rattle.c_solver.specs.OutcomeWord.{void_word, outcome_word};
 
-mod curve;
+pub mod curve;
 
 use hypergeometric::reason_number;
 use little_endian::signed32_bits;
@@ -19,8 +21,7 @@ use sweep::VoidStation;
 // - bits 16 to 31: if the number is 12, the number of the reason why the first void station is void;
 // - bits 32 to 63: if the number is 12, the j of this station in two's complement.
 // All other bits are 0. The station with this j has the place k = j * 2^20, and its index is i = j + 4095 (see `lambert_station`).
-#[unsafe(no_mangle)]
-pub extern "C" fn lambert_solve(question: &[u8], answer: &mut [u8]) -> u64
+pub fn lambert_solve(question: &[u8], answer: &mut [u8]) -> u64
     ensures outcome { result ≡ outcome_word (solve_of question.now answer.old).outcome }
     ensures buffer { answer.new ≡ (solve_of question.now answer.old).buffer }
 {
@@ -49,8 +50,7 @@ fn void_word(station: VoidStation) -> u64
 }
 
 // Calls `write_record` and returns its result.
-#[unsafe(no_mangle)]
-pub extern "C" fn lambert_record(question: &[u8], out: &mut [u8]) -> usize
+pub fn lambert_record(question: &[u8], out: &mut [u8]) -> usize
     ensures size { result ≡ (output_of question.now out.old).size }
     ensures buffer { out.new ≡ (output_of question.now out.old).buffer }
 {

@@ -1,6 +1,8 @@
 // The time at a place, and the result of a sweep: the number of its crossings, how it ended, and the
 // first void station with its reason. Every f64 is passed and returned as its 64 bits. This is for
 // programs in other languages and for comparisons with the independent program.
+#![tactic(auto)]
+
 ghost use Rattle.std.specs.Prelude.{◌≡◌, ◌-◌, ◌^◌, ◌<◌};
 ghost use Rattle.c_time.specs.SweepNumber.{station_number, walk_number, sweep_number_of};
 ghost use Rattle.c_time.specs.TimeBits.{with_lambda, time_bits_of};
@@ -29,8 +31,7 @@ pub fn with_lambda(b: u64) -> Triangle
 // Returns the bits of the time at the place k with the given number of whole revolutions, for the
 // lambda with the bits b. If the place is void, the result is 0x7FF8_0000_0000_0000 plus the number
 // of the reason.
-#[unsafe(no_mangle)]
-pub extern "C" fn lambert_time_bits(b: u64, k: i64, revolutions: u16) -> u64
+pub fn lambert_time_bits(b: u64, k: i64, revolutions: u16) -> u64
     ensures { result ≡ time_bits_of b k revolutions }
 {
     flight_time::place_bits(flight_time::time_at(with_lambda(b), k, revolutions))
@@ -66,8 +67,7 @@ fn walk_number(walk: Walk) -> u64
 // - bits 8 to 10: if bit 4 is set, the number of the reason why the first void station is void;
 // - bits 32 to 63: if bit 4 is set, the j of this station in two's complement.
 // All other bits are 0.
-#[unsafe(no_mangle)]
-pub extern "C" fn lambert_sweep_number(b: u64, revolutions: u16, w: u64) -> u64
+pub fn lambert_sweep_number(b: u64, revolutions: u16, w: u64) -> u64
     ensures { result ≡ sweep_number_of b revolutions w }
 {
     let search = Search {

@@ -1,0 +1,20 @@
+-- `lambert_time` meets its contract, by cases on the result of the entrance checks, and by the contracts of `place_at` and `place_bits`.
+use mathlib.Core.Path.{sym}
+use mir.Facts.{to_z-of_z}
+use Rattle.c_solver.specs.Curve.{time_bits}
+use Rattle.c_solver.proofs.curve.lambert_time.Goals as goal
+
+pub returns-in-Refused : goal.returns-in-Refused
+unfolding time_bits
+returns-in-Refused c = simp (sym c.judge.ensures, c.in-Refused.is)
+
+pub returns-in-Accepted : goal.returns-in-Accepted
+unfolding time_bits
+returns-in-Accepted c =
+    simp (
+      sym c.judge.ensures,
+      c.in-Accepted.is,
+      c.place_bits.ensures,
+      c.place_at.ensures,
+      to_z-of_z c.ranges.k,
+    )
