@@ -2,6 +2,8 @@
 // board to standard output. If a record is refused, `post` prints the reason to standard error and goes on. If a read
 // fails, or a length is above that of the longest record, `post` prints a message to standard error and stops without
 // writing a board. If a write fails, it prints a message to standard error too.
+#![tactic(auto)]
+
 ghost use Rattle.std.specs.Prelude.{◌≡◌, ◌≤◌, length, take};
 ghost use Rattle.records.specs.Layout.{LENGTH, answer_room};
 ghost use Rattle.record_stream.specs.Streams.{longest_rest};
@@ -9,38 +11,44 @@ ghost use Rattle.post.specs.declared.Next.TheVariants.{Failed};
 ghost use Rattle.post.specs.Posting.{AfterRest, AfterHead, AfterNext, Postings};
 
 use board::{BOARD_SIZE, Posted};
-use libc::{STDERR_FILENO, STDOUT_FILENO};
 use record_stream::{REASON_ROOM, Start};
 use records::{ANSWER_ROOM, LENGTH_SIZE};
 use standard_input::Got;
+use std::io;
+use std::io::Read;
 use std::num::wrapping_add_u64;
 
 // What comes next: a record at the given byte offset of the input, the end of the input, or a failure. After a failure
 // the rest of the input is not read.
-#[derive(Drop)]
+#[derive(Clone, Copy)]
 enum Next {
     At(u64),
     End,
     Failed,
 }
 
-fn main() {
+// Records come from standard input, the board goes to standard output, and messages go to standard error.
+fn main(rt: HostRuntime) {
+    let mut input = rt.stdin();
+    let output = rt.stdout();
+    let errors = rt.stderr();
     let mut board = [0u8; BOARD_SIZE];
-    if post_all(&mut board) && !io::write_all(STDOUT_FILENO, &board) {
-        os::fail(b"post: standard output cannot be written");
+    if post_all(&errors, &mut input, &mut board) {
+        if let Err(error) = output.write_all(&board) {
+            let _ = println!(&errors; "post: standard output cannot be written: {error}");
+        }
     }
 }
 
 // Posts every record and reports whether the input was read to its end. The prover requires a bound on the loop. The
 // input has none, so the bound is a count that no input reaches.
-fn post_all(board: &mut [u8]) -> bool
+fn post_all(errors: &impl Print, input: &mut impl Read, board: &mut [u8]) -> bool
     ensures { Postings board.old board.new }
 {
     let mut bytes = [0u8; ANSWER_ROOM];
-    let mut rounds_left = u64::MAX;
     let mut place: u64 = 0;
-    while rounds_left > 0 {
-        match post_next(board, &mut bytes, place) {
+    for _ in 0..u64::MAX {
+        match post_next(errors, input, board, &mut bytes, place) {
             Next::At(next) => {
                 place = next;
             }
@@ -51,25 +59,37 @@ fn post_all(board: &mut [u8]) -> bool
                 return false;
             }
         }
-        rounds_left -= 1;
     }
     false
 }
 
 // Posts the record at byte offset `place` of the input. Reads it into `bytes`: first its length field, then the rest.
-fn post_next(board: &mut [u8], bytes: &mut [u8], place: u64) -> Next
+fn post_next(
+    errors: &impl Print,
+    input: &mut impl Read,
+    board: &mut [u8],
+    bytes: &mut [u8],
+    place: u64,
+) -> Next
     requires { length bytes.old ≡ answer_room }
     ensures { AfterNext place board.old bytes.new board.new result }
 {
-    match standard_input::fill(&mut bytes[..LENGTH_SIZE]) {
-        Got::Failed => cannot_read(),
-        Got::Bytes(n) => post_after(board, bytes, n, place),
+    match standard_input::fill(input, &mut bytes[..LENGTH_SIZE]) {
+        Got::Failed(error) => cannot_read(errors, error),
+        Got::Bytes(n) => post_after(errors, input, board, bytes, n, place),
     }
 }
 
 // Posts the record whose first n bytes are in the buffer. These are as many as a length field has, or fewer at the end
 // of the input. Posts nothing if n is 0 or if the length is above that of the longest record.
-fn post_after(board: &mut [u8], bytes: &mut [u8], n: usize, place: u64) -> Next
+fn post_after(
+    errors: &impl Print,
+    input: &mut impl Read,
+    board: &mut [u8],
+    bytes: &mut [u8],
+    n: usize,
+    place: u64,
+) -> Next
     requires room { length bytes.old ≡ answer_room }
     requires head { n ≤ LENGTH.width }
     ensures kept { take n bytes.new ≡ take n bytes.old }
@@ -77,9 +97,9 @@ fn post_after(board: &mut [u8], bytes: &mut [u8], n: usize, place: u64) -> Next
 {
     match record_stream::start_of(&bytes[..n]) {
         Start::End => Next::End,
-        Start::Record(rest) => post_rest(board, bytes, n, rest, place),
+        Start::Record(rest) => post_rest(errors, input, board, bytes, n, rest, place),
         Start::NoRecord => {
-            tell_length(place);
+            tell_length(errors, place);
             Next::Failed
         }
     }
@@ -87,7 +107,15 @@ fn post_after(board: &mut [u8], bytes: &mut [u8], n: usize, place: u64) -> Next
 
 // Reads the rest of a record, of which n bytes are in the buffer, and posts it. If the input ends within the record,
 // the record is malformed.
-fn post_rest(board: &mut [u8], bytes: &mut [u8], n: usize, rest: usize, place: u64) -> Next
+fn post_rest(
+    errors: &impl Print,
+    input: &mut impl Read,
+    board: &mut [u8],
+    bytes: &mut [u8],
+    n: usize,
+    rest: usize,
+    place: u64,
+) -> Next
     requires room { length bytes.old ≡ answer_room }
     requires head { n ≤ LENGTH.width }
     requires rest { rest ≤ longest_rest }
@@ -95,47 +123,45 @@ fn post_rest(board: &mut [u8], bytes: &mut [u8], n: usize, rest: usize, place: u
     ensures board { AfterRest n rest place board.old bytes.new board.new result }
 {
     let end = n + rest;
-    match standard_input::fill(&mut bytes[n..end]) {
-        Got::Failed => cannot_read(),
+    match standard_input::fill(input, &mut bytes[n..end]) {
+        Got::Failed(error) => cannot_read(errors, error),
         Got::Bytes(more) => {
             let size = n + more;
-            tell(board::post(board, &bytes[..size]), place);
+            tell(errors, board::post(board, &bytes[..size]), place);
             Next::At(wrapping_add_u64(place, size as u64))
         }
     }
 }
 
-fn cannot_read() -> Next
+fn cannot_read(errors: &impl Print, error: io::Error) -> Next
     ensures { result ≡ Failed }
 {
-    os::fail(b"post: standard input cannot be read");
+    let _ = println!(errors; "post: standard input cannot be read: {error}");
     Next::Failed
 }
 
-fn tell(posted: Posted, place: u64) {
+fn tell(errors: &impl Print, posted: Posted, place: u64) {
     match posted {
         Posted::Taken => {}
-        Posted::Refused(number) => tell_refusal(number, place),
+        Posted::Refused(number) => tell_refusal(errors, number, place),
     }
 }
 
-fn tell_refusal(number: u8, place: u64) {
+fn tell_refusal(errors: &impl Print, number: u8, place: u64) {
     let mut words = [0u8; REASON_ROOM];
     let size = record_stream::reason_of(number, &mut words);
-    say(place, &words[..size]);
+    say(errors, place, &words[..size]);
 }
 
-fn tell_length(place: u64) {
+fn tell_length(errors: &impl Print, place: u64) {
     let mut words = [0u8; REASON_ROOM];
     let size = record_stream::length_reason(&mut words);
-    say(place, &words[..size]);
+    say(errors, place, &words[..size]);
 }
 
-// Prints to standard error that the record at byte offset `place` was refused, and why.
-fn say(place: u64, why: &[u8]) {
-    io::write_all(STDERR_FILENO, b"post: the record at byte ");
-    io::print_decimal(STDERR_FILENO, place);
-    io::write_all(STDERR_FILENO, b" is refused, ");
-    io::write_all(STDERR_FILENO, why);
-    io::write_all(STDERR_FILENO, b"\n");
+// Prints that the record at byte offset `place` was refused, and why.
+fn say(errors: &impl Print, place: u64, why: &[u8]) {
+    let _ = print!(errors; "post: the record at byte {place} is refused, ");
+    let _ = errors.write_all(why);
+    let _ = println!(errors; "");
 }

@@ -1,6 +1,6 @@
 -- What `start_of` gives in each case: the end of the input (`ended`), a length field that is cut short (`cut_short`),
 -- a length that is too large (`too_long`), or a record (`followed`). The rest of a record after its length field is
--- never longer than that of the longest record (`rest-short`).
+-- never longer than that of the longest record (`rest_short`).
 use mathlib.Core.Path.{◌≡◌, refl}
 use mathlib.Core.Bool.{Bool, true, false, cond}
 use mathlib.Core.List.{List}
@@ -48,11 +48,11 @@ module _ (value rest : ℕ) where
   by_length true is = omega (arith, same_rest is)
   by_length false is = by_value (ltb longest_rest value) refl is
 
-  by-none : (none short : Bool) →
+  by_none : (none short : Bool) →
       cond none End (cond short (Record 0) (cond (ltb longest_rest value) NoRecord (Record value))) ≡ Record rest → rest ≤ longest_rest
-  by-none true short is = absurd (let z : ◌≡◌ {A = ℕ} 0 1 = cc is in omega (arith, z))
-  by-none false short is = by_length short is
+  by_none true short is = absurd (let z : ◌≡◌ {A = ℕ} 0 1 = cc is in omega (arith, z))
+  by_none false short is = by_length short is
 
 pub rest_short : (head : List ℕ) (rest : ℕ) → start_of head ≡ Record rest → rest ≤ longest_rest
 unfolding start_of
-rest_short head rest is = by-none (value_of LENGTH head) rest (eqb (length head) 0) (ltb (length head) LENGTH.width) is
+rest_short head rest is = by_none (value_of LENGTH head) rest (eqb (length head) 0) (ltb (length head) LENGTH.width) is

@@ -1,7 +1,7 @@
--- The stream of an input, without the counter of `stream_in`. An empty input has no records (`no-records`). If an input
+-- The stream of an input, without the counter of `stream_in`. An empty input has no records (`no_records`). If an input
 -- begins with a message whose size is the one that its length field gives, and which is not longer than the longest
 -- record, this message is the first record of the stream, and the records of the remaining input follow it
--- (`record-first`). `board_after` can be computed one record at a time (`board-by-steps`): depending on what comes first
+-- (`record_first`). `board_after` can be computed one record at a time (`board_by_steps`): depending on what comes first
 -- in the input, the board so far is written, or nothing is written, or the record is posted and the remaining input
 -- follows.
 use mathlib.Core.Path.{◌≡◌, refl, sym, ap, ◌∙◌}

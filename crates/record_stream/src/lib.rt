@@ -1,5 +1,7 @@
 // Records one after another in an input: finds the end of each by its length field, and says in words why a record is
 // refused.
+#![tactic(auto)]
+
 ghost use Rattle.std.specs.Prelude.{◌≡◌};
 ghost use Rattle.record_stream.specs.Streams.{start_of};
 
@@ -16,7 +18,7 @@ const LONGEST_REST: usize = ANSWER_ROOM - LENGTH_SIZE;
 // - `Record`: a record, with the number of bytes that its length field says follow. The input may end before them. The
 //   number is 0 if the input ends within the length field.
 // - `NoRecord`: a length above that of the longest record, so nothing tells where the next record starts.
-#[derive(Drop)]
+#[derive(Clone, Copy)]
 pub enum Start {
     End,
     Record(usize),

@@ -1,6 +1,5 @@
 // Says in words why a record is refused.
 ghost use Rattle.std.specs.Prelude.{◌≡◌, ◌≤◌, length, take};
-ghost use Rattle.io.specs.Counts.{IsPrefixLen};
 ghost use Rattle.slots.specs.Slots.{padded};
 ghost use Rattle.record_stream.specs.Reasons.{reason_of, length_reason, reason_room};
 
@@ -12,7 +11,7 @@ pub const REASON_ROOM: usize = 93;
 pub fn reason_of(number: u8, out: &mut [u8; REASON_ROOM]) -> usize
     ensures size { result ≡ length (reason_of number) }
     ensures buffer { out.new ≡ padded reason_room (reason_of number) }
-    ensures within { IsPrefixLen result out.new }
+    ensures within { (result ≤ length out.new) × (result ≡ length (take result out.new)) }
     ensures words { take result out.new ≡ reason_of number }
 {
     match number {
@@ -28,7 +27,7 @@ pub fn reason_of(number: u8, out: &mut [u8; REASON_ROOM]) -> usize
 pub fn length_reason(out: &mut [u8; REASON_ROOM]) -> usize
     ensures size { result ≡ length length_reason }
     ensures buffer { out.new ≡ padded reason_room length_reason }
-    ensures within { IsPrefixLen result out.new }
+    ensures within { (result ≤ length out.new) × (result ≡ length (take result out.new)) }
     ensures words { take result out.new ≡ length_reason }
 {
     put(
@@ -41,7 +40,7 @@ fn put(words: &[u8], out: &mut [u8; REASON_ROOM]) -> usize
     requires { length words.now ≤ reason_room }
     ensures size { result ≡ length words.now }
     ensures buffer { out.new ≡ padded reason_room words.now }
-    ensures within { IsPrefixLen result out.new }
+    ensures within { (result ≤ length out.new) × (result ≡ length (take result out.new)) }
     ensures words { take result out.new ≡ words.now }
 {
     slots::fill(out, words);

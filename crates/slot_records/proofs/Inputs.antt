@@ -1,9 +1,9 @@
--- The output for a whole input, without a count of its slots: an empty input has an empty output (`empty-input`); a whole question gives
--- its record, followed by the output for the rest (`question-first`); a short last slot gives number 1 (`short-last`). The output is also
+-- The output for a whole input, without a count of its slots: an empty input has an empty output (`empty_input`); a whole question gives
+-- its record, followed by the output for the rest (`question_first`); a short last slot gives number 1 (`short_last`). The output is also
 -- that of the slots one by one: the output for one slot, followed by the output for the rest if another slot may follow
--- (`records-by-steps`).
+-- (`records_by_steps`).
 use mathlib.Core.Path.{◌≡◌, refl, sym, ap, ◌∙◌}
-use mathlib.Core.Bool.{Bool, true, false, cond}
+use mathlib.Core.Bool.{Bool, true, false}
 use mathlib.Core.List.{List, [], ◌∷◌, ◌++◌, append-nil}
 use Prim.Native.Nat.{ℕ, zero, suc, ◌≤◌, ◌<◌}
 use native.Mathlib.Omega.{arith}
@@ -72,7 +72,8 @@ one_slot s h k =
     let none : drop question_size s ≡ [] = no_bytes (drop question_size s) (omega (arith, length-drop question_size s)) in
     let all : take question_size s ≡ s = take_all question_size s k in
     slot_first s h ∙ ap (λ (l : List ℕ). record_of (take question_size s) ++ records_of l) none
-    ∙ ap (λ (l : List ℕ). record_of (take question_size s) ++ l) empty_input ∙ append-nil (record_of (take question_size s)) ∙ ap record_of all
+    ∙ ap (λ (l : List ℕ). record_of (take question_size s) ++ l) empty_input ∙ append-nil (record_of (take question_size s))
+    ∙ ap record_of all
 
 pub short_last : (s : List ℕ) → 0 < length s → length s < question_size → records_of s ≡ refusal_bytes (refusal_with 0 0 1)
 short_last s h k = one_slot s h (omega arith) ∙ other_size s (λ e. omega (arith, e, k))
@@ -80,17 +81,17 @@ short_last s h k = one_slot s h (omega arith) ∙ other_size s (λ e. omega (ari
 -- ---- The output slot by slot
 
 module _ (input : List ℕ) (some : 0 < length input) where
-  whole-slot : question_size ≤ length input → BySteps input
+  whole_slot : question_size ≤ length input → BySteps input
   unfolding slot_reply
-  whole-slot h =
+  whole_slot h =
       let slot = take question_size input in
       let n : length slot ≡ question_size = length-take-le question_size input h in
       let record_is : slot_record slot ≡ record_of slot = some_came slot (λ z. omega (arith, n, z)) in
       rw (eq-eqb (length slot) question_size n, record_is) (slot_first input some)
 
-  short-slot : length input < question_size → BySteps input
+  short_slot : length input < question_size → BySteps input
   unfolding slot_reply
-  short-slot h =
+  short_slot h =
       let all : take question_size input ≡ input = take_all question_size input (omega arith) in
       let record_is : slot_record input ≡ record_of input = some_came input (λ z. omega (arith, some, z)) in
       let other = ne_eqb (length input) question_size (λ e. omega (arith, e, h)) in
@@ -102,5 +103,5 @@ records_by_steps [] = empty_input ∙ sym (ap (λ (s : List ℕ). s ++ []) (none
 records_by_steps (b ∷ bs) = by (leb question_size (length (b ∷ bs))) refl
   where
     by : (whole : Bool) → leb question_size (length (b ∷ bs)) ≡ whole → BySteps (b ∷ bs)
-    by true e = whole-slot (b ∷ bs) (omega arith) (leb-true question_size (length (b ∷ bs)) e)
-    by false e = short-slot (b ∷ bs) (omega arith) (leb-false question_size (length (b ∷ bs)) e)
+    by true e = whole_slot (b ∷ bs) (omega arith) (leb-true question_size (length (b ∷ bs)) e)
+    by false e = short_slot (b ∷ bs) (omega arith) (leb-false question_size (length (b ∷ bs)) e)

@@ -1,4 +1,4 @@
--- The output for a slot of which no byte was read (`none_came`, `none-reply`, `none_written`), and for any other slot (`some-came`).
+-- The output for a slot of which no byte was read (`none_came`, `none_reply`, `none_written`), and for any other slot (`some_came`).
 use mathlib.Core.Path.{◌≡◌, sym, ap, ◌∙◌}
 use mathlib.Core.Bool.{false}
 use mathlib.Core.List.{List, []}
@@ -22,9 +22,9 @@ module _ (came : List ℕ) (h : length came ≡ 0) where
   unfolding slot_record
   none_came = rw (eq-eqb (length came) 0 h)
 
-  pub none-reply : record { size = 0; another = false } ≡ slot_reply came
+  pub none_reply : record { size = 0; another = false } ≡ slot_reply came
   unfolding slot_reply
-  none-reply = sym (ap (λ (n : ℕ). record { size = length (slot_record came); another = eqb n question_size }) h
+  none_reply = sym (ap (λ (n : ℕ). record { size = length (slot_record came); another = eqb n question_size }) h
       ∙ ap (λ (s : List ℕ). record { size = length s; another = false }) none_came)
 
   pub none_written : (buffer : List ℕ) → buffer ≡ written buffer (slot_record came)

@@ -1,8 +1,9 @@
 // Writes the whole record of a question into a buffer that has room for any record, and decides what to write for one slot of an input.
 // Here a slot is 82 bytes of the input, not a slot of a board. The programs that answer questions use these functions.
-ghost use Rattle.std.specs.Prelude.{◌≡◌, length, take};
+#![tactic(auto)]
+
+ghost use Rattle.std.specs.Prelude.{◌≡◌, ◌≤◌, length, take};
 ghost use Rattle.question_record.specs.Record.{record_of};
-ghost use Rattle.io.specs.Counts.{IsPrefixLen};
 ghost use Rattle.little_endian.specs.Bytes.{written};
 ghost use Rattle.slot_records.specs.Inputs.{slot_record, slot_reply};
 
@@ -12,14 +13,14 @@ use records::{ANSWER_ROOM, QUESTION_ROOM};
 pub fn record_of(question: &[u8], out: &mut [u8; ANSWER_ROOM]) -> usize
     ensures size { result ≡ length (record_of question.now) }
     ensures buffer { out.new ≡ written out.old (record_of question.now) }
-    ensures within { IsPrefixLen result out.new }
+    ensures within { (result ≤ length out.new) × (result ≡ length (take result out.new)) }
     ensures record { take result out.new ≡ record_of question.now }
 {
     question_record::write_record(question, out)
 }
 
 // The reply to a slot: how many bytes at the start of the buffer are to be written, and whether another slot may follow.
-#[derive(Drop)]
+#[derive(Clone, Copy)]
 pub struct SlotReply {
     pub size: usize,
     pub another: bool,
@@ -30,7 +31,7 @@ pub struct SlotReply {
 pub fn answer_slot(came: &[u8], out: &mut [u8; ANSWER_ROOM]) -> SlotReply
     ensures reply { result ≡ slot_reply came.now }
     ensures buffer { out.new ≡ written out.old (slot_record came.now) }
-    ensures within { IsPrefixLen result.size out.new }
+    ensures within { (result.size ≤ length out.new) × (result.size ≡ length (take result.size out.new)) }
     ensures bytes { take result.size out.new ≡ slot_record came.now }
 {
     if came.len() == 0 {

@@ -4,11 +4,15 @@
 // - FFFE: an index (u32) and a byte follow; the byte is stored at that index of the buffer.
 // - FFFD: a number n (u32) follows; from now on the first n bytes of the buffer are lent as the board.
 // - FFFF: the list of commands ends. The hash of the board is written, and the next list starts with a board of zeros.
+// If a read or write fails, the program stops with the error.
+#![tactic(auto)]
+
 ghost use Rattle.std.specs.Prelude.{◌≤◌};
 
 use board::{BOARD_SIZE, Posted, SLOTS};
-use libc::{STDIN_FILENO, STDOUT_FILENO};
 use little_endian::{u16_at, u32_at};
+use std::io;
+use std::io::Read;
 use std::num::wrapping_add_u64;
 
 // The size of the buffer: a board and one more slot.
@@ -16,69 +20,76 @@ const ROOM: usize = BOARD_SIZE + BOARD_SIZE / SLOTS;
 
 // What to do next: continue with the given number of bytes lent as the board, start again with a board of zeros, or
 // stop.
-#[derive(Drop)]
+#[derive(Clone, Copy)]
 enum Next {
     Lend(usize),
     Clear,
     Stop,
 }
 
-fn main() {
-    let mut rounds_left = u64::MAX;
-    while rounds_left > 0 && run_list() {
-        rounds_left -= 1;
+fn main(rt: HostRuntime) -> io::Result<()> {
+    let mut input = rt.stdin();
+    for _ in 0..u64::MAX {
+        if !run_list(&rt, &mut input)? {
+            break;
+        }
     }
+    Ok(())
 }
 
 // Runs one list of commands, which starts with a board of zeros. Reports whether another list may follow.
-fn run_list() -> bool {
+fn run_list(rt: &impl Print, input: &mut impl Read) -> io::Result<bool> {
     let mut room = [0u8; ROOM];
     let mut size: usize = BOARD_SIZE;
-    let mut rounds_left = u64::MAX;
-    while rounds_left > 0 {
-        match run_command(&mut room, size) {
+    for _ in 0..u64::MAX {
+        match run_command(rt, input, &mut room, size)? {
             Next::Lend(n) => {
                 size = n;
             }
             Next::Clear => {
-                return true;
+                return Ok(true);
             }
             Next::Stop => {
-                return false;
+                return Ok(false);
             }
         }
-        rounds_left -= 1;
     }
-    false
+    Ok(false)
 }
 
-fn run_command(room: &mut [u8], size: usize) -> Next {
+fn run_command(
+    rt: &impl Print,
+    input: &mut impl Read,
+    room: &mut [u8],
+    size: usize,
+) -> io::Result<Next> {
     let mut command = [0u8; 2];
-    if io::read_full(STDIN_FILENO, &mut command) < 2 {
-        return Next::Stop;
+    if standard_input::fill(input, &mut command).count()? < 2 {
+        return Ok(Next::Stop);
     }
     let n = u16_at(&command, 0);
     if n == 0xFFFF {
-        print_hash(room, size);
-        return Next::Clear;
+        print_hash(rt, room, size)?;
+        return Ok(Next::Clear);
     }
     if n == 0xFFFE {
-        put_byte(room);
-        return Next::Lend(size);
+        put_byte(input, room)?;
+        return Ok(Next::Lend(size));
     }
     if n == 0xFFFD {
-        return Next::Lend(lent_size());
+        let lent = lent_size(input)?;
+        return Ok(Next::Lend(lent));
     }
-    post_record(room, size, n as usize);
-    Next::Lend(size)
+    post_record(rt, input, room, size, n as usize)?;
+    Ok(Next::Lend(size))
 }
 
 // Reads the number of bytes to lend. A number above the size of the buffer counts as that size.
-fn lent_size() -> usize {
+fn lent_size(input: &mut impl Read) -> io::Result<usize> {
     let mut bytes = [0u8; 4];
-    io::read_full(STDIN_FILENO, &mut bytes);
+    standard_input::fill(input, &mut bytes).count()?;
     let n = u32_at(&bytes, 0) as usize;
-    at_most(n, ROOM)
+    Ok(at_most(n, ROOM))
 }
 
 fn at_most(n: usize, limit: usize) -> usize
@@ -88,52 +99,59 @@ fn at_most(n: usize, limit: usize) -> usize
     if n < limit { n } else { limit }
 }
 
-fn put_byte(room: &mut [u8]) {
+fn put_byte(input: &mut impl Read, room: &mut [u8]) -> io::Result<()> {
     let mut bytes = [0u8; 5];
-    io::read_full(STDIN_FILENO, &mut bytes);
+    standard_input::fill(input, &mut bytes).count()?;
     let at = u32_at(&bytes, 0) as usize;
     if at < room.len() {
         room[at] = bytes[4];
     }
+    Ok(())
 }
 
-fn post_record(room: &mut [u8], size: usize, n: usize) {
+fn post_record(
+    rt: &impl Print,
+    input: &mut impl Read,
+    room: &mut [u8],
+    size: usize,
+    n: usize,
+) -> io::Result<()> {
     let mut bytes = [0u8; 1024];
-    read_and_post(room, size, &mut bytes, n);
+    read_and_post(rt, input, room, size, &mut bytes, n)
 }
 
-fn read_and_post(room: &mut [u8], size: usize, bytes: &mut [u8], n: usize) {
+fn read_and_post(
+    rt: &impl Print,
+    input: &mut impl Read,
+    room: &mut [u8],
+    size: usize,
+    bytes: &mut [u8],
+    n: usize,
+) -> io::Result<()> {
     let cut = at_most(n, bytes.len());
-    io::read_full(STDIN_FILENO, &mut bytes[..cut]);
+    standard_input::fill(input, &mut bytes[..cut]).count()?;
     let lent = at_most(size, room.len());
-    print_posted(board::post(&mut room[..lent], &bytes[..cut]));
+    print_posted(rt, board::post(&mut room[..lent], &bytes[..cut]))
 }
 
-fn print_posted(posted: Posted) {
+fn print_posted(rt: &impl Print, posted: Posted) -> io::Result<()> {
     match posted {
-        Posted::Taken => {
-            io::write_all(STDOUT_FILENO, b"T");
-        }
-        Posted::Refused(number) => {
-            io::print_decimal(STDOUT_FILENO, number as u64);
-        }
+        Posted::Taken => print!(rt; "T"),
+        Posted::Refused(number) => print!(rt; "{number}"),
     }
 }
 
 // Prints the FNV-1a hash of the lent bytes.
-fn print_hash(room: &[u8], size: usize) {
+fn print_hash(rt: &impl Print, room: &[u8], size: usize) -> io::Result<()> {
     let lent = at_most(size, room.len());
-    io::write_all(STDOUT_FILENO, b" ");
-    io::print_hex(STDOUT_FILENO, hash_of(&room[..lent]), 16);
-    io::write_all(STDOUT_FILENO, b"\n");
+    let hash = hash_of(&room[..lent]);
+    println!(rt; " {hash:016x}")
 }
 
 fn hash_of(s: &[u8]) -> u64 {
     let mut hash: u64 = 0xcbf2_9ce4_8422_2325;
-    let mut i: usize = 0;
-    while i < s.len() {
-        hash = times_prime(hash ^ (s[i] as u64));
-        i += 1;
+    for byte in s {
+        hash = times_prime(hash ^ (*byte as u64));
     }
     hash
 }

@@ -1,74 +1,75 @@
 // Reads frames of 124 bytes, each with a question, and writes a line for each: the number of its refusal, or 0 and the 22 words of the
-// problem. The expected output is that of the independent program for the same frames.
+// problem. The expected output is that of the independent program for the same frames. If a read or write fails, the program stops with
+// the error.
+#![tactic(auto)]
+
 ghost use Rattle.std.specs.Prelude.{◌<◌, ◌≤◌};
 
 use entrance::{Judged, Problem};
 use float64::Vector;
 use geometry::{Frame, Triangle};
-use libc::{STDIN_FILENO, STDOUT_FILENO};
+use std::io;
+use std::io::Read;
 
 // The size of a frame: two bytes for the question's size, two for the answer buffer's size, and 120 for the question.
 const FRAME_SIZE: usize = 124;
 
-fn print_word(word: u64) {
-    io::write_all(STDOUT_FILENO, b" ");
-    io::print_hex(STDOUT_FILENO, word, 16);
+fn print_word(rt: &impl Print, word: u64) -> io::Result<()> {
+    print!(rt; " {word:016x}")
 }
 
-fn print_float(x: f64) {
-    print_word(float64::to_bits(x));
+fn print_float(rt: &impl Print, x: f64) -> io::Result<()> {
+    print_word(rt, float64::to_bits(x))
 }
 
-fn print_vector(v: Vector) {
-    print_float(v.x);
-    print_float(v.y);
-    print_float(v.z);
+fn print_vector(rt: &impl Print, v: Vector) -> io::Result<()> {
+    print_float(rt, v.x)?;
+    print_float(rt, v.y)?;
+    print_float(rt, v.z)
 }
 
-fn print_triangle(t: Triangle) {
-    print_float(t.lambda);
-    print_float(t.semiperimeter);
-    print_float(t.chord);
-    print_float(t.rho);
-    print_float(t.sigma);
+fn print_triangle(rt: &impl Print, t: Triangle) -> io::Result<()> {
+    print_float(rt, t.lambda)?;
+    print_float(rt, t.semiperimeter)?;
+    print_float(rt, t.chord)?;
+    print_float(rt, t.rho)?;
+    print_float(rt, t.sigma)
 }
 
-fn print_directions(f: Frame) {
+fn print_directions(rt: &impl Print, f: Frame) -> io::Result<()> {
     let normal = f.normal;
     let unit1 = f.unit1;
     let unit2 = f.unit2;
-    print_vector(normal);
-    print_vector(unit1);
-    print_vector(unit2);
+    print_vector(rt, normal)?;
+    print_vector(rt, unit1)?;
+    print_vector(rt, unit2)
 }
 
-fn print_problem(p: Problem) {
+fn print_problem(rt: &impl Print, p: Problem) -> io::Result<()> {
     let triangle = p.triangle;
     let frame = p.frame;
-    print_word(p.job as u64);
-    print_word(p.revision as u64);
-    print_word(p.revolutions as u64);
-    print_word(if p.long_way { 1 } else { 0 });
-    print_float(p.mu);
-    print_triangle(triangle);
-    print_float(p.radius1);
-    print_float(p.radius2);
-    print_directions(frame);
-    print_float(p.wanted);
+    print_word(rt, p.job as u64)?;
+    print_word(rt, p.revision as u64)?;
+    print_word(rt, p.revolutions as u64)?;
+    print_word(rt, if p.long_way { 1 } else { 0 })?;
+    print_float(rt, p.mu)?;
+    print_triangle(rt, triangle)?;
+    print_float(rt, p.radius1)?;
+    print_float(rt, p.radius2)?;
+    print_directions(rt, frame)?;
+    print_float(rt, p.wanted)
 }
 
-// Writes the line, and returns whether the end of it was written.
-fn print_judged(judged: Judged) -> bool {
+// Writes the line.
+fn print_judged(rt: &impl Print, judged: Judged) -> io::Result<()> {
     match judged {
-        Judged::Refused(number) => {
-            io::print_decimal(STDOUT_FILENO, number as u64);
-        }
+        Judged::Refused(number) => { println!(rt; "{number}") }
         Judged::Accepted(problem) => {
-            io::write_all(STDOUT_FILENO, b"0");
-            print_problem(problem);
+            print!(rt; "0")?;
+            print_problem(rt, problem)?;
+            println!(rt; "")
         }
     }
-    io::write_all(STDOUT_FILENO, b"\n")
 }
 
 // Returns the number in two bytes, the lower one first.
@@ -97,19 +98,23 @@ fn judge_frame(frame: &[u8; FRAME_SIZE]) -> Judged {
     entrance::judge(&bytes[4..end], room)
 }
 
-// Reads one frame and writes its line. Returns whether the frame was whole and the end of the line was written.
-fn answer_one() -> bool {
+// Reads one frame and writes its line. Returns whether the frame was whole.
+fn answer_one(rt: &impl Print, input: &mut impl Read) -> io::Result<bool> {
     let mut frame = [0u8; FRAME_SIZE];
-    if io::read_full(STDIN_FILENO, &mut frame) < FRAME_SIZE {
-        return false;
+    if standard_input::fill(input, &mut frame).count()? < FRAME_SIZE {
+        return Ok(false);
     }
-    print_judged(judge_frame(&frame))
+    print_judged(rt, judge_frame(&frame))?;
+    Ok(true)
 }
 
 // The prover requires a bound on the loop. The input has none, so the bound is a count that no input reaches.
-fn main() {
-    let mut rounds_left = u64::MAX;
-    while rounds_left > 0 && answer_one() {
-        rounds_left -= 1;
+fn main(rt: HostRuntime) -> io::Result<()> {
+    let mut input = rt.stdin();
+    for _ in 0..u64::MAX {
+        if !answer_one(&rt, &mut input)? {
+            break;
+        }
     }
+    Ok(())
 }

@@ -4,68 +4,86 @@
 // For each call the program writes a letter and the number of bytes taken: Q is a question, and its bytes follow; N is nothing yet; R is
 // a refused length; B means that the reader needs a reset. For the state it writes K, the number of bytes kept, these bytes, and ! if the
 // reader needs a reset.
+// If a read or write fails, the program stops with the error.
+#![tactic(auto)]
+
 ghost use Rattle.std.specs.Prelude.{◌≡◌, ◌≤◌, length};
 ghost use Rattle.records.specs.Layout.{question_room};
 ghost use Rattle.link_reader.specs.Reading.{size_given};
 
-use libc::{STDIN_FILENO, STDOUT_FILENO};
 use link_reader::{Came, Reader, Step};
 use little_endian::{u16_at, word_at};
 use records::QUESTION_ROOM;
+use std::io;
+use std::io::Read;
 
 // The size of the longest piece.
 const LONGEST: usize = 4096;
 
 // The reader after a command, and whether another command may follow.
-#[derive(Drop)]
+#[derive(Clone, Copy)]
 struct Ran {
     reader: Reader,
     more: bool,
 }
 
-fn main() {
+fn main(rt: HostRuntime) -> io::Result<()> {
+    let mut input = rt.stdin();
     let mut bytes = [0u8; LONGEST];
     let new = Reader::new();
     let mut ran = Ran {
         reader: new,
         more: true,
     };
-    let mut rounds_left = u64::MAX;
-    while rounds_left > 0 && ran.more {
+    for _ in 0..u64::MAX {
+        if !ran.more {
+            break;
+        }
         let reader = ran.reader;
-        ran = run_command(reader, &mut bytes);
-        rounds_left -= 1;
+        ran = run_command(&rt, &mut input, reader, &mut bytes)?;
     }
+    Ok(())
 }
 
-fn run_command(reader: Reader, bytes: &mut [u8]) -> Ran {
+fn run_command(
+    rt: &impl Print,
+    input: &mut impl Read,
+    reader: Reader,
+    bytes: &mut [u8],
+) -> io::Result<Ran> {
     let mut command = [0u8; 2];
-    if io::read_full(STDIN_FILENO, &mut command) < 2 {
-        return Ran {
+    if standard_input::fill(input, &mut command).count()? < 2 {
+        return Ok(Ran {
             reader,
             more: false,
-        };
+        });
     }
     let n = u16_at(&command, 0);
     if n == 0xFFFF {
-        print_state(reader);
+        print_state(rt, reader)?;
         let again = reader.reset();
-        return Ran {
+        return Ok(Ran {
             reader: again,
             more: true,
-        };
+        });
     }
-    let fed = read_and_feed(reader, bytes, n as usize);
-    Ran {
+    let fed = read_and_feed(rt, input, reader, bytes, n as usize)?;
+    Ok(Ran {
         reader: fed,
         more: true,
-    }
+    })
 }
 
-fn read_and_feed(reader: Reader, bytes: &mut [u8], n: usize) -> Reader {
+fn read_and_feed(
+    rt: &impl Print,
+    input: &mut impl Read,
+    reader: Reader,
+    bytes: &mut [u8],
+    n: usize,
+) -> io::Result<Reader> {
     let size = at_most(n, bytes.len());
-    io::read_full(STDIN_FILENO, &mut bytes[..size]);
-    feed(reader, &bytes[..size])
+    standard_input::fill(input, &mut bytes[..size]).count()?;
+    feed(rt, reader, &bytes[..size])
 }
 
 fn at_most(n: usize, limit: usize) -> usize
@@ -75,7 +93,7 @@ fn at_most(n: usize, limit: usize) -> usize
 }
 
 // Passes in a piece, and passes in again the bytes that a call did not take, until none are left or a reset is needed.
-fn feed(reader: Reader, piece: &[u8]) -> Reader {
+fn feed(rt: &impl Print, reader: Reader, piece: &[u8]) -> io::Result<Reader> {
     let mut now = reader;
     let mut at = 0;
     let mut calls = piece.len() + 1;
@@ -83,16 +101,17 @@ fn feed(reader: Reader, piece: &[u8]) -> Reader {
         let step = now.read(&piece[at..]);
         at += step.taken;
         now = step.next;
-        if !print_step(step) || at == piece.len() {
-            return now;
+        let more = print_step(rt, step)?;
+        if !more || at == piece.len() {
+            return Ok(now);
         }
         calls -= 1;
     }
-    now
+    Ok(now)
 }
 
 // Writes the result of a call, and returns whether to pass in the rest of the piece.
-fn print_step(step: Step) -> bool
+fn print_step(rt: &impl Print, step: Step) -> io::Result<bool>
     requires { size_given step.came ≤ question_room }
 {
     let question = step.question;
@@ -100,49 +119,50 @@ fn print_step(step: Step) -> bool
     let came = step.came;
     match came {
         Came::Question(size) => {
-            print_taken(b"Q", taken);
-            io::write_all(STDOUT_FILENO, b"=");
-            print_first(&question, size);
-            true
+            print_taken(rt, "Q", taken)?;
+            print!(rt; "=")?;
+            print_first(rt, &question, size)?;
+            Ok(true)
         }
-        Came::Nothing => print_taken(b"N", taken),
-        Came::BadLength => print_taken(b"R", taken),
+        Came::Nothing => print_taken(rt, "N", taken),
+        Came::BadLength => print_taken(rt, "R", taken),
         Came::NeedsReset => {
-            print_taken(b"B", taken);
-            false
+            print_taken(rt, "B", taken)?;
+            Ok(false)
         }
     }
 }
 
-fn print_taken(letter: &[u8], taken: usize) -> bool {
-    io::write_all(STDOUT_FILENO, letter);
-    io::print_decimal(STDOUT_FILENO, taken as u64);
-    true
+fn print_taken(rt: &impl Print, letter: &str, taken: usize) -> io::Result<bool> {
+    print!(rt; "{letter}{taken}")?;
+    Ok(true)
 }
 
-fn print_state(reader: Reader) {
+fn print_state(rt: &impl Print, reader: Reader) -> io::Result<()> {
     let bytes = reader.bytes;
     let count = at_most(reader.count, QUESTION_ROOM);
-    print_taken(b" K", reader.count);
-    io::write_all(STDOUT_FILENO, b"=");
-    print_first(&bytes, count);
+    print_taken(rt, " K", reader.count)?;
+    print!(rt; "=")?;
+    print_first(rt, &bytes, count)?;
     if reader.refused {
-        io::write_all(STDOUT_FILENO, b"!");
+        print!(rt; "!")?;
     }
-    io::write_all(STDOUT_FILENO, b"\n");
+    println!(rt; "")
 }
 
 // Writes the first n bytes as hexadecimal numbers of eight bytes each. Missing bytes of the last number count as zeros.
-fn print_first(s: &[u8], n: usize)
+fn print_first(rt: &impl Print, s: &[u8], n: usize) -> io::Result<()>
     requires { n ≤ length s.now }
 {
-    print_words(&s[..n]);
+    print_words(rt, &s[..n])
 }
 
-fn print_words(s: &[u8]) {
+fn print_words(rt: &impl Print, s: &[u8]) -> io::Result<()> {
     let mut at = 0;
     while at < s.len() {
-        io::print_hex(STDOUT_FILENO, word_at(s, at), 16);
+        let word = word_at(s, at);
+        print!(rt; "{word:016x}")?;
         at += 8;
     }
+    Ok(())
 }

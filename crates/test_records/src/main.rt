@@ -1,90 +1,107 @@
 // Reads records from standard input, one after another by their lengths, reads each into its struct and writes it from the struct to
 // standard output: a question, an answer with its entries, or a refusal of either size. It leaves out a record of any other kind. The
-// program stops at the end of the input, at a record that this end cuts short, and at a length above that of the longest answer.
+// program stops at the end of the input, at a record that this end cuts short, and at a length above that of the longest answer. If a read
+// or write fails, it stops with the error.
+#![tactic(auto)]
+
 ghost use Rattle.std.specs.Prelude.{◌≡◌, ◌≤◌, length};
 ghost use Rattle.records.specs.Layout.{LENGTH, answer_room};
 
-use libc::{STDIN_FILENO, STDOUT_FILENO};
 use records::{
     ANSWER_KIND, ANSWER_ROOM, ENTRY_SIZE, HEAD_SIZE, LENGTH_SIZE, QUESTION_KIND, QUESTION_SIZE,
     REFUSAL_KIND, VOID_REFUSAL_SIZE,
 };
+use std::io;
+use std::io::Read;
 
 // The prover requires a bound on the loop. The input has none, so the bound is a count that no input reaches.
-fn main() {
+fn main(rt: HostRuntime) -> io::Result<()> {
+    let mut input = rt.stdin();
     let mut bytes = [0u8; ANSWER_ROOM];
-    let mut rounds_left = u64::MAX;
-    while rounds_left > 0 && copy_record(&mut bytes) {
-        rounds_left -= 1;
+    for _ in 0..u64::MAX {
+        if !copy_record(&rt, &mut input, &mut bytes)? {
+            break;
+        }
     }
+    Ok(())
 }
 
 // Reads a record into the buffer, first its length and then the rest, and writes it out. Returns whether another record may follow.
-fn copy_record(bytes: &mut [u8]) -> bool
+fn copy_record(rt: &impl Print, input: &mut impl Read, bytes: &mut [u8]) -> io::Result<bool>
     requires { length bytes.old ≡ answer_room }
 {
-    if io::read_full(STDIN_FILENO, &mut bytes[..LENGTH_SIZE]) < LENGTH_SIZE {
-        return false;
+    let came = standard_input::fill(input, &mut bytes[..LENGTH_SIZE]).count()?;
+    if came < LENGTH_SIZE {
+        return Ok(false);
     }
     let size = records::size_of(bytes);
     if size > ANSWER_ROOM {
-        return false;
+        return Ok(false);
     }
-    copy_rest(bytes, size)
+    copy_rest(rt, input, bytes, size)
 }
 
 // Does the same for a record whose length is in the buffer already.
-fn copy_rest(bytes: &mut [u8], size: usize) -> bool
+fn copy_rest(
+    rt: &impl Print,
+    input: &mut impl Read,
+    bytes: &mut [u8],
+    size: usize,
+) -> io::Result<bool>
     requires room { length bytes.old ≡ answer_room }
     requires above { LENGTH.width ≤ size }
     requires below { size ≤ answer_room }
 {
-    if io::read_full(STDIN_FILENO, &mut bytes[LENGTH_SIZE..size]) < size - LENGTH_SIZE {
-        return false;
+    let came = standard_input::fill(input, &mut bytes[LENGTH_SIZE..size]).count()?;
+    if came < size - LENGTH_SIZE {
+        return Ok(false);
     }
-    write_record(&bytes[..size]);
-    true
+    write_record(rt, &bytes[..size])?;
+    Ok(true)
 }
 
-fn write_record(bytes: &[u8]) {
+fn write_record(rt: &impl Print, bytes: &[u8]) -> io::Result<()> {
     let kind = records::kind_of(bytes);
     if kind == QUESTION_KIND {
-        write_question(bytes);
+        write_question(rt, bytes)
     } else if kind == ANSWER_KIND {
-        write_answer(bytes);
+        write_answer(rt, bytes)
     } else if kind == REFUSAL_KIND {
-        write_refusal(bytes);
+        write_refusal(rt, bytes)
+    } else {
+        Ok(())
     }
 }
 
-fn write_question(bytes: &[u8]) {
+fn write_question(rt: &impl Print, bytes: &[u8]) -> io::Result<()> {
     let mut out = [0u8; QUESTION_SIZE];
     records::write_question(&mut out, records::read_question(bytes));
-    io::write_all(STDOUT_FILENO, &out);
+    rt.write_all(&out)
 }
 
 // Writes the head, and each entry that the head counts and the record contains.
-fn write_answer(bytes: &[u8]) {
+fn write_answer(rt: &impl Print, bytes: &[u8]) -> io::Result<()> {
     let head = records::read_head(bytes);
     let mut out = [0u8; HEAD_SIZE];
     records::write_head(&mut out, head);
-    io::write_all(STDOUT_FILENO, &out);
+    rt.write_all(&out)?;
     let mut i: u16 = 0;
     while i < head.number && records::answer_size(i + 1) <= bytes.len() {
-        write_entry(&bytes[records::answer_size(i)..]);
+        write_entry(rt, &bytes[records::answer_size(i)..])?;
         i += 1;
     }
+    Ok(())
 }
 
-fn write_entry(bytes: &[u8]) {
+fn write_entry(rt: &impl Print, bytes: &[u8]) -> io::Result<()> {
     let mut out = [0u8; ENTRY_SIZE];
     records::write_entry(&mut out, records::read_entry(bytes));
-    io::write_all(STDOUT_FILENO, &out);
+    rt.write_all(&out)
 }
 
-fn write_refusal(bytes: &[u8]) {
+fn write_refusal(rt: &impl Print, bytes: &[u8]) -> io::Result<()> {
     let refusal = records::read_refusal(bytes);
     let mut out = [0u8; VOID_REFUSAL_SIZE];
     records::write_refusal(&mut out, refusal);
-    io::write_all(STDOUT_FILENO, &out[..records::refusal_size(refusal.number)]);
+    rt.write_all(&out[..records::refusal_size(refusal.number)])
 }

@@ -1,8 +1,11 @@
 // Reads operands, each a line of 16 hexadecimal digits, and writes the bits of each square root in the same form. The expected output is
-// that of the independent program for the same operands.
+// that of the independent program for the same operands. If a read or write fails, the program stops with the error.
+#![tactic(auto)]
+
 ghost use Rattle.std.specs.Prelude.{◌<◌};
 
-use libc::{STDIN_FILENO, STDOUT_FILENO};
+use std::io;
+use std::io::Read;
 
 // Returns the value of a hexadecimal digit, in upper or lower case.
 fn digit(c: u8) -> u64
@@ -19,20 +22,24 @@ fn operand(line: &[u8; 17]) -> u64 {
     value
 }
 
-// Reads one line and writes its root. Returns whether the line was whole and the end of the root's line was written.
-fn answer_one() -> bool {
+// Reads one line and writes its root. Returns whether the line was whole.
+fn answer_one(rt: &impl Print, input: &mut impl Read) -> io::Result<bool> {
     let mut line = [0u8; 17];
-    if io::read_full(STDIN_FILENO, &mut line) < 17 {
-        return false;
+    if standard_input::fill(input, &mut line).count()? < 17 {
+        return Ok(false);
     }
-    io::print_hex(STDOUT_FILENO, c_root::lambert_root_bits(operand(&line)), 16);
-    io::write_all(STDOUT_FILENO, b"\n")
+    let root = c_root::lambert_root_bits(operand(&line));
+    println!(rt; "{root:016x}")?;
+    Ok(true)
 }
 
 // The prover requires a bound on the loop. The input has none, so the bound is a count that no input reaches.
-fn main() {
-    let mut rounds_left = u64::MAX;
-    while rounds_left > 0 && answer_one() {
-        rounds_left -= 1;
+fn main(rt: HostRuntime) -> io::Result<()> {
+    let mut input = rt.stdin();
+    for _ in 0..u64::MAX {
+        if !answer_one(&rt, &mut input)? {
+            break;
+        }
     }
+    Ok(())
 }

@@ -1,11 +1,15 @@
 // Reads frames of 18 bytes, each with a place: the bits of lambda, k and the whole revolutions. Writes a line for each: the bits of its
-// time, or `void` and the number of the reason. The expected output is that of the independent program for the same frames.
+// time, or `void` and the number of the reason. The expected output is that of the independent program for the same frames. If a read or
+// write fails, the program stops with the error.
+#![tactic(auto)]
+
 ghost use Rattle.std.specs.Prelude.{◌≡◌};
 ghost use Rattle.little_endian.specs.Bytes.{number_at};
 
 use flight_time::Place;
 use hypergeometric::reason_number;
-use libc::{STDIN_FILENO, STDOUT_FILENO};
+use std::io;
+use std::io::Read;
 
 fn k_bits(frame: &[u8]) -> u64
     ensures { result ≡ number_at 8 frame.now 8 }
@@ -24,28 +28,32 @@ fn place_of(frame: &[u8]) -> Place {
     flight_time::time_at(triangle, k, revolutions_of(frame))
 }
 
-// Reads one frame and writes its line. Returns whether the frame was whole and the end of the line was written.
-fn answer_one() -> bool {
+// Reads one frame and writes its line. Returns whether the frame was whole.
+fn answer_one(rt: &impl Print, input: &mut impl Read) -> io::Result<bool> {
     let mut frame = [0u8; 18];
-    if io::read_full(STDIN_FILENO, &mut frame) < 18 {
-        return false;
+    if standard_input::fill(input, &mut frame).count()? < 18 {
+        return Ok(false);
     }
     match place_of(&frame) {
         Place::Timed(time) => {
-            io::print_hex(STDOUT_FILENO, float64::to_bits(time), 16);
+            let time = float64::to_bits(time);
+            println!(rt; "{time:016x}")?;
         }
         Place::Void(reason) => {
-            io::write_all(STDOUT_FILENO, b"void ");
-            io::print_decimal(STDOUT_FILENO, reason_number(reason) as u64);
+            let number = reason_number(reason);
+            println!(rt; "void {number}")?;
         }
     }
-    io::write_all(STDOUT_FILENO, b"\n")
+    Ok(true)
 }
 
 // The prover requires a bound on the loop. The input has none, so the bound is a count that no input reaches.
-fn main() {
-    let mut rounds_left = u64::MAX;
-    while rounds_left > 0 && answer_one() {
-        rounds_left -= 1;
+fn main(rt: HostRuntime) -> io::Result<()> {
+    let mut input = rt.stdin();
+    for _ in 0..u64::MAX {
+        if !answer_one(&rt, &mut input)? {
+            break;
+        }
     }
+    Ok(())
 }

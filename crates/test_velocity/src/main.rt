@@ -1,10 +1,14 @@
 // Reads frames of 144 bytes, each with 17 floats (mu, the triangle, the two radii and the unit vectors) and the place k. Writes a line
-// for each: the bits of v1 and v2. The expected output is that of the independent program for the same frames.
+// for each: the bits of v1 and v2. The expected output is that of the independent program for the same frames. If a read or write fails,
+// the program stops with the error.
+#![tactic(auto)]
+
 ghost use Rattle.std.specs.Prelude.{◌≤◌};
 
 use float64::Vector;
 use geometry::{Frame, Triangle};
-use libc::{STDIN_FILENO, STDOUT_FILENO};
+use std::io;
+use std::io::Read;
 use velocity::Velocities;
 
 fn number(frame: &[u8], at: usize) -> f64 {
@@ -52,37 +56,42 @@ fn velocities_of(frame: &[u8]) -> Velocities {
     velocity::velocities_at(mu, triangle, radius1, radius2, directions, k)
 }
 
-fn print_number(x: f64) {
-    io::print_hex(STDOUT_FILENO, float64::to_bits(x), 16);
+fn print_number(rt: &impl Print, x: f64) -> io::Result<()> {
+    let x = float64::to_bits(x);
+    print!(rt; "{x:016x}")
 }
 
-fn print_vector(v: Vector) {
-    print_number(v.x);
-    io::write_all(STDOUT_FILENO, b" ");
-    print_number(v.y);
-    io::write_all(STDOUT_FILENO, b" ");
-    print_number(v.z);
+fn print_vector(rt: &impl Print, v: Vector) -> io::Result<()> {
+    print_number(rt, v.x)?;
+    print!(rt; " ")?;
+    print_number(rt, v.y)?;
+    print!(rt; " ")?;
+    print_number(rt, v.z)
 }
 
-// Reads one frame and writes its line. Returns whether the frame was whole and the end of the line was written.
-fn answer_one() -> bool {
+// Reads one frame and writes its line. Returns whether the frame was whole.
+fn answer_one(rt: &impl Print, input: &mut impl Read) -> io::Result<bool> {
     let mut frame = [0u8; 144];
-    if io::read_full(STDIN_FILENO, &mut frame) < 144 {
-        return false;
+    if standard_input::fill(input, &mut frame).count()? < 144 {
+        return Ok(false);
     }
     let w = velocities_of(&frame);
     let v1 = w.v1;
     let v2 = w.v2;
-    print_vector(v1);
-    io::write_all(STDOUT_FILENO, b" ");
-    print_vector(v2);
-    io::write_all(STDOUT_FILENO, b"\n")
+    print_vector(rt, v1)?;
+    print!(rt; " ")?;
+    print_vector(rt, v2)?;
+    println!(rt; "")?;
+    Ok(true)
 }
 
 // The prover requires a bound on the loop. The input has none, so the bound is a count that no input reaches.
-fn main() {
-    let mut rounds_left = u64::MAX;
-    while rounds_left > 0 && answer_one() {
-        rounds_left -= 1;
+fn main(rt: HostRuntime) -> io::Result<()> {
+    let mut input = rt.stdin();
+    for _ in 0..u64::MAX {
+        if !answer_one(&rt, &mut input)? {
+            break;
+        }
     }
+    Ok(())
 }
