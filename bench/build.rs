@@ -1,5 +1,5 @@
-//! Links the program with the proved libraries that `rt staticlib` wrote, and makes Rust modules of the proved source
-//! of the estimated root.
+//! Links the program with the proved libraries that tools/library wrote, and makes Rust modules of the proved source of
+//! the estimated root.
 
 #[path = "build/rattle.rs"]
 mod rattle;

@@ -1,4 +1,4 @@
-//! Links the program with the proved libraries that `rt staticlib` wrote, and tells it which compiler it is compiled with.
+//! Links the program with the proved libraries that tools/library wrote, and tells it which compiler it is compiled with.
 
 fn main() {
     let here = std::env::var("CARGO_MANIFEST_DIR").expect("cargo sets it");

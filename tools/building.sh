@@ -44,3 +44,56 @@ one_build() {
     echo "waiting for another build in this folder to finish" >&2
     flock "$LAMBERT_LOCK"
 }
+
+# interface_of NAME: prints the crate that exports the functions of the C interface NAME: the crate NAME_c if there is one, otherwise NAME.
+# If neither is a static library, prints nothing.
+interface_of() {
+    sed -nE "s/^($1|$1_c) staticlib:.*/\\1/p" crates.txt | tail -n 1
+}
+
+# find_sources CONDITION...: finds the sources that meet the conditions. What rt makes in crates/NAME/out is no source.
+find_sources() {
+    find crates.txt crates -path 'crates/*/out' -prune -o -type f \( -name crates.txt -o -name '*.rt' -o -name '*.antt' \) "$@"
+}
+
+# hash_of_sources: prints the hash of the toolchain's version and of all sources. The order of the files is the same in every locale.
+hash_of_sources() {
+    {
+        rt version
+        find_sources -print0 | LC_ALL=C sort -z | xargs -0 sha256sum
+    } | sha256sum
+}
+
+# made_by_rt NAME FILE CRATE MADE COMMAND: unless FILE is there and was made from the sources as they are, runs `rt COMMAND`, which is
+# `rt lib` or `rt run`, in the crate CRATE, and copies the file MADE that it has made there to FILE. In the folder of FILE, NAME.sources
+# then has the hash of the sources, and NAME.log what rt said. The lines in which rt says what it does appear on standard error as they
+# come. If rt fails, its whole output follows there, and the script ends with the status of rt. `made_from` is the hash of the sources when
+# the script began. `rt run` runs the program too, here on an empty input, and what the program then writes is not kept.
+made_by_rt() {
+    local name=$1 file=$2 crate=$3 made=$4 command=$5 beside
+    beside=${file%/*}/$name
+    if [ -f "$file" ] && [ "$(cat "$beside.sources" 2>/dev/null)" = "$made_from" ]; then return; fi
+    mkdir -p "${file%/*}"
+    rm -f "$beside.sources"
+    (
+        cd "crates/$crate"
+        if [ "$command" = run ]; then exec rt run 2>&1 >/dev/null </dev/null; fi
+        exec rt "$command" 2>&1 </dev/null
+    ) | tee "$beside.log" | sed -un '/^rt:/p' >&2 || {
+        local failed=$?
+        cat "$beside.log" >&2
+        exit "$failed"
+    }
+    keep "$name" "$file" "crates/$crate/$made"
+}
+
+# keep NAME FILE MADE: copies what was made to FILE, and writes NAME.sources beside it, if the sources are still those of `made_from`.
+keep() {
+    [ "$(hash_of_sources)" = "$made_from" ] || {
+        fault "the sources changed while $1 was proved, so it is not known what was proved. Run this again"
+        exit 1
+    }
+    cp "$3" "$2.new"
+    mv "$2.new" "$2"
+    echo "$made_from" >"${2%/*}/$1.sources"
+}

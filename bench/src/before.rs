@@ -8,8 +8,8 @@ use reference::places::Place;
 use std::io;
 use std::path::Path;
 
-/// The program of the earlier commit, in the clone that bench/run makes.
-const LAMBERT: &str = "target/before/target/bin/lambert";
+/// The environment variable in which bench/run gives the path of the earlier commit's program.
+const LAMBERT: &str = "LAMBERT_BEFORE";
 
 extern "C" {
     fn before_root_bits(b: u64) -> u64;
@@ -63,7 +63,8 @@ fn time_roots() {
 
 fn time_questions((sort, what): (&str, &str)) -> io::Result<()> {
     let folder = Path::new("target/questions");
-    let programs: [questions::Program; 3] = [(LAMBERT, &[]), (PROVED, &[]), (REFERENCE, &["solve"])];
+    let before = std::env::var(LAMBERT).map_err(|e| io::Error::other(format!("{LAMBERT}: {e}")))?;
+    let programs: [questions::Program; 3] = [(&before, &[]), (PROVED, &[]), (REFERENCE, &["solve"])];
     let seconds = questions::seconds(&questions::ask(sort, folder)?, &programs, folder)?;
     let records = if questions::same(folder, 0, 1)? { "every record equal" } else { "some records differ" };
     println!("questions {what}, {COUNT} of them, {records}, the best of {} rounds:", questions::ROUNDS);

@@ -15,8 +15,8 @@ pub const PROVED: &str = "target/bin/lambert";
 pub const REFERENCE: &str = "reference/target/release/reference";
 
 /// A program and the arguments with which it answers questions.
-pub type Program = (&'static str, &'static [&'static str]);
-pub const TODAY: [Program; 2] = [(PROVED, &[]), (REFERENCE, &["solve"])];
+pub type Program<'a> = (&'a str, &'a [&'a str]);
+pub const TODAY: [Program<'static>; 2] = [(PROVED, &[]), (REFERENCE, &["solve"])];
 
 /// The name that the reference has for each sort of questions, and a description.
 pub const SORTS: [(&str, &str); 2] =
@@ -65,7 +65,7 @@ pub fn same(folder: &Path, i: usize, j: usize) -> io::Result<bool> {
 }
 
 /// Runs a program with one file as its input and another as its output. Returns the seconds that it took. Output on standard error
-/// counts as a failure, since a proved program cannot choose its exit status.
+/// counts as a failure, since the proved program ends with the status 0 after a failure too.
 fn run(program: &str, words: &[&str], from: &Path, to: &Path) -> io::Result<f64> {
     let mut command = Command::new(program);
     command.args(words).stdin(File::open(from)?).stdout(File::create(to)?).stderr(Stdio::piped());
