@@ -19,7 +19,7 @@ use Rattle.float64.specs.Notation.{◌≺◌, 0F}
 use Rattle.float64.specs.Value.{finite_of}
 use Rattle.float64.specs.Nearness.{Farther, negative, NearestRoot}
 use Rattle.float64.specs.Root.{units_of, root_of, root_of_units}
-use Rattle.float64.specs.declared.Root.TheVariants.{Value}
+use Rattle.std.specs.Prelude.{Some}
 use Rattle.float64.proofs.Comparisons.{zero_not_below, some_below}
 use Rattle.float64.proofs.Grid.{units_exact}
 use Rattle.float64.proofs.Law.{nearest_root}
@@ -186,7 +186,7 @@ module _ (x r : Float) (fits-x : T (fits binary64 x)) (finite : finite_of x ≡ 
 
 -- ---- the laws of the root
 -- The root is not refused, and `root_or_nan`, which 01's steps use, is its value.
-pub root_value : (x : Float) → finite_of x ≡ true → (x ≺ 0F) ≡ false → root_of x ≡ Value (root_or_nan x)
+pub root_value : (x : Float) → finite_of x ≡ true → (x ≺ 0F) ≡ false → root_of x ≡ Some (root_or_nan x)
 unfolding root_of root_or_nan finite_of or_nan
 root_value nan f n = absurd (false≢true f)
 root_value (inf s) f n = absurd (false≢true f)

@@ -1,11 +1,10 @@
 -- The bounds of every f64 in the problem of a question that no entrance check refuses: none of its square roots is
 -- refused, every f64 is finite, |L| is below 1, and the wanted time is above 0. Definitions only; proofs/Past.antt
 -- shows that the bounds hold (`past_bounds`).
-use Rattle.std.specs.Prelude.{◌≡◌, true, List, ℕ, ◌^◌, Float}
+use Rattle.std.specs.Prelude.{◌≡◌, true, List, ℕ, ◌^◌, Float, Some}
 use Rattle.float64.specs.Notation.{◌⊖◌, ◌⊗◌, ◌⊘◌, ◌≺◌, 0F, 1F, 2F}
 use Rattle.float64.specs.Value.{finite_of, magnitude_of}
 use Rattle.float64.specs.Root.{root_of}
-use Rattle.float64.specs.declared.Root.TheVariants.{Value}
 use Rattle.float64.specs.declared.Vector.{Vector}
 use Rattle.vectors.specs.Vectors.{norm_squared, difference, root_or_nan}
 use Rattle.geometry.specs.Triangles.{shape_of, at_least_zero}
@@ -26,12 +25,12 @@ wanted_operand mu s = (2F ⊗ mu) ⊘ ((s ⊗ s) ⊗ s)
 -- The bounds of g, the shape of the positions p1 and p2.
 pub record ShapeBounds (p1 p2 : Vector) (g : Shape) : Type 0 where
   -- No root is refused: not those of q1 and q2, nor those in the chord, L and σ, nor that of hh.
-  pub root1 : root_of g.q1 ≡ Value g.radius1
-  pub root2 : root_of g.q2 ≡ Value g.radius2
-  pub chord_root : root_of (norm_squared (difference p2 p1)) ≡ Value g.triangle.chord
-  pub lambda_root : let x = lambda_operand g.triangle.chord g.triangle.semiperimeter in root_of x ≡ Value (root_or_nan x)
-  pub sigma_root : root_of (1F ⊖ g.triangle.rho ⊗ g.triangle.rho) ≡ Value g.triangle.sigma
-  pub plane_root : root_of g.hh ≡ Value (root_or_nan g.hh)
+  pub root1 : root_of g.q1 ≡ Some g.radius1
+  pub root2 : root_of g.q2 ≡ Some g.radius2
+  pub chord_root : root_of (norm_squared (difference p2 p1)) ≡ Some g.triangle.chord
+  pub lambda_root : let x = lambda_operand g.triangle.chord g.triangle.semiperimeter in root_of x ≡ Some (root_or_nan x)
+  pub sigma_root : root_of (1F ⊖ g.triangle.rho ⊗ g.triangle.rho) ≡ Some g.triangle.sigma
+  pub plane_root : root_of g.hh ≡ Some (root_or_nan g.hh)
   -- Both radii are from 1 to 2^40, c is from 2^-11 to 2^42, s is from 1 to 2^42, and c/s is from 2^-10 to 2^42.
   pub radius1 : Within g.radius1 1 1 (2 ^ 40) 1
   pub radius2 : Within g.radius2 1 1 (2 ^ 40) 1
@@ -54,7 +53,7 @@ pub record ProblemBounds (p : Problem) : Type 0 where
   -- refused.
   pub mu : Within p.mu 1 1 (2 ^ 60) 1
   pub operand : Within (wanted_operand p.mu p.triangle.semiperimeter) 1 (2 ^ 125) (2 ^ 61) 1
-  pub operand_root : let x = wanted_operand p.mu p.triangle.semiperimeter in root_of x ≡ Value (root_or_nan x)
+  pub operand_root : let x = wanted_operand p.mu p.triangle.semiperimeter in root_of x ≡ Some (root_or_nan x)
   -- The wanted time is from 2^-63 to 2^71. It is finite and above 0.
   pub wanted : Within p.wanted 1 (2 ^ 63) (2 ^ 71) 1
   pub wanted_finite : finite_of p.wanted ≡ true

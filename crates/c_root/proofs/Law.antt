@@ -4,14 +4,13 @@
 use mathlib.Core.Path.{◌≡◌, refl, sym, ap, ◌∙◌}
 use mathlib.Core.Bool.{true, true≢false}
 use Prim.Native.Nat.{ℕ}
-use lib.Ieee.{binary64, of_bits}
+use lib.Ieee.{Float, binary64, of_bits}
 use lib.Ieee.Bits.{of_bits-fits}
 use Rattle.float64.specs.Notation.{bits}
 use Rattle.float64.specs.Value.{finite_of}
 use Rattle.float64.specs.Root.{root_of}
 use Rattle.float64.specs.Nearness.{IsRoot}
-use Rattle.float64.specs.declared.Root.{Root}
-use Rattle.float64.specs.declared.Root.TheVariants.{Value, Refused}
+use Rattle.std.specs.Prelude.{Option, Some, None}
 use Rattle.float64.proofs.Bits.{read_back}
 use Rattle.float64.proofs.Law.{square_root_law, root_finite}
 use Rattle.c_root.specs.RootBits.{answer_bits, root_bits_of}
@@ -24,13 +23,13 @@ ones_not_finite : true ≡ finite_of (bits 0xFFFF_FFFF_FFFF_FFFF) → ⊥
 unfolding of_bits finite_of
 ones_not_finite e = true≢false e
 
-answered : (b : ℕ) (o : Root) → root_of (bits b) ≡ o → answer_bits o ≡ 0xFFFF_FFFF_FFFF_FFFF → o ≡ Refused
+answered : (b : ℕ) (o : Option Float) → root_of (bits b) ≡ o → answer_bits o ≡ 0xFFFF_FFFF_FFFF_FFFF → o ≡ None
 unfolding answer_bits
-answered b Refused h g = refl
-answered b (Value r) h g =
+answered b None h g = refl
+answered b (Some r) h g =
     let f = root_finite (bits b) (of_bits-fits binary64 b) r h in
     absurd (ones_not_finite (sym f.1 ∙ ap finite_of (sym (read_back r f.0) ∙ ap bits g)))
 
-pub ones_refused : (b : ℕ) → root_bits_of b ≡ 0xFFFF_FFFF_FFFF_FFFF → root_of (bits b) ≡ Refused
+pub ones_refused : (b : ℕ) → root_bits_of b ≡ 0xFFFF_FFFF_FFFF_FFFF → root_of (bits b) ≡ None
 unfolding root_bits_of
 ones_refused b e = answered b (root_of (bits b)) refl e

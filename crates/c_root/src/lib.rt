@@ -7,21 +7,23 @@ ghost use Rattle.float64.specs.FourRoots.{four_roots_of};
 ghost use Rattle.c_root.specs.RootBits.{root_bits_of};
 ghost use Rattle.c_root.specs.FourNumbers.{four_of, all_found, numbers_after};
 
-use float64::{Four, FourRoots, Root};
+use float64::Four;
 
 // Returns the bits of the root of the f64 with the bits b, or all ones if the root is refused.
+#[tactic(auto, unfolding(crate::specs::RootBits::root_bits_of, crate::specs::RootBits::answer_bits))]
 pub fn lambert_root_bits(b: u64) -> u64
     ensures { result ≡ root_bits_of b }
 {
     match float64::square_root(float64::from_bits(b)) {
-        Root::Value(r) => float64::to_bits(r),
-        Root::Refused => 0xFFFF_FFFF_FFFF_FFFF,
+        Some(r) => float64::to_bits(r),
+        None => 0xFFFF_FFFF_FFFF_FFFF,
     }
 }
 
 // Replaces four numbers by their square roots and returns true. If at least one of them has no root, it changes nothing and returns
 // false. In C, the argument is a pointer to four doubles. The contract speaks of numbers, and all NaN patterns are one number: it does
 // not say that the bits of a NaN stay the same.
+#[tactic(auto, unfolding(crate::specs::FourNumbers::all_found, crate::specs::FourNumbers::numbers_after, crate::specs::FourNumbers::four_of))]
 pub fn lambert_four_roots(numbers: &mut [f64; 4]) -> bool
     ensures result { result ≡ all_found (four_roots_of (four_of numbers.old)) }
     ensures buffer { numbers.new ≡ numbers_after (four_roots_of (four_of numbers.old)) numbers.old }
@@ -33,10 +35,10 @@ pub fn lambert_four_roots(numbers: &mut [f64; 4]) -> bool
         d: numbers[3],
     };
     match float64::four_roots(x) {
-        FourRoots::Values(r) => {
+        Some(r) => {
             *numbers = [r.a, r.b, r.c, r.d];
             true
         }
-        FourRoots::SomeRefused => false,
+        None => false,
     }
 }

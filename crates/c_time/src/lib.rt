@@ -8,13 +8,13 @@ ghost use Rattle.c_time.specs.SweepNumber.{station_number, walk_number, sweep_nu
 ghost use Rattle.c_time.specs.TimeBits.{with_lambda, time_bits_of};
 
 use geometry::Triangle;
-use hypergeometric::reason_number;
 use little_endian::signed32_bits;
 use stations::Search;
 use sweep::{VoidStation, Walk};
 
 // Returns a triangle whose lambda has the bits b. The chord divided by the semiperimeter is
 // 1 - lambda^2. Rho and sigma are arbitrary, because the time does not depend on them.
+#[tactic(auto, unfolding(crate::specs::TimeBits::with_lambda))]
 pub fn with_lambda(b: u64) -> Triangle
     ensures { result ≡ with_lambda b }
 {
@@ -31,6 +31,7 @@ pub fn with_lambda(b: u64) -> Triangle
 // Returns the bits of the time at the place k with the given number of whole revolutions, for the
 // lambda with the bits b. If the place is void, the result is 0x7FF8_0000_0000_0000 plus the number
 // of the reason.
+#[tactic(auto, unfolding(crate::specs::TimeBits::time_bits_of))]
 pub fn lambert_time_bits(b: u64, k: i64, revolutions: u16) -> u64
     ensures { result ≡ time_bits_of b k revolutions }
 {
@@ -43,7 +44,7 @@ fn station_number(station: VoidStation) -> u64
     ensures room { result < 2 ^ 64 - 32 }
 {
     let reason = station.reason;
-    0x100 * reason_number(reason) as u64 + 0x1_0000_0000 * signed32_bits(station.j) as u64
+    0x100 * u64::from(u16::from(reason)) + 0x1_0000_0000 * signed32_bits(station.j) as u64
 }
 
 // Returns the number that says how the walk ended. Its value leaves room for a count of at most
@@ -67,6 +68,7 @@ fn walk_number(walk: Walk) -> u64
 // - bits 8 to 10: if bit 4 is set, the number of the reason why the first void station is void;
 // - bits 32 to 63: if bit 4 is set, the j of this station in two's complement.
 // All other bits are 0.
+#[tactic(auto, unfolding(sweep::specs::Crossings::sweep_of, sweep::specs::Crossings::reported, crate::specs::SweepNumber::sweep_number_of, crate::specs::SweepNumber::found_number))]
 pub fn lambert_sweep_number(b: u64, revolutions: u16, w: u64) -> u64
     ensures { result ≡ sweep_number_of b revolutions w }
 {

@@ -10,6 +10,7 @@ use native.Mathlib.Omega.{arith}
 use lib.IntN.{ℤ, pos, neg_ℤ, ◌*ℤ◌}
 use lib.ListN.{length}
 use lib.Ieee.{Float, nan, add, sub, mul, div, neg, lt, eq, of_bits, of_int}
+use Rattle.std.specs.Prelude.{Err}
 use Rattle.float64.specs.Notation.{bits, 0F, 1F}
 use Rattle.float64.specs.Value.{magnitude_of, finite_of}
 use Rattle.float64.specs.Root.{root_of}
@@ -17,9 +18,8 @@ use Rattle.hypergeometric.specs.Reasons.{reason_number}
 use Rattle.hypergeometric.specs.Steps.{y_of, eta_of, c1_of, next_c, half_angles_of, ratio_of, series_from, series_of, s4_of, back_of, g_of}
 use Rattle.hypergeometric.specs.declared.reasons.Reason.{Reason}
 use Rattle.hypergeometric.specs.declared.reasons.Reason.TheVariants.{OutsideRange, RefusedRoot, ZeroDivisor, NotFinite}
-use Rattle.hypergeometric.specs.declared.results.StepValue.TheVariants.{Void}
 use Rattle.flight_time.specs.Steps.{station_spacing, outside_range, x_of, u_of, direct_of, with_revolutions}
-use Rattle.flight_time.specs.Time.{if_finite, time_of, place_bits}
+use Rattle.flight_time.specs.Time.{if_finite, steps_of, time_of, place_bits}
 use Rattle.flight_time.specs.declared.Place.TheVariants.{Timed, Void}
 use Rattle.stations.specs.declared.search.Search.{Search}
 use Rattle.stations.specs.Sides.{side_at}
@@ -42,7 +42,7 @@ use Rattle.closed_case_laws.specs.Given.{ONE, with_lambda}
 -- ---- the last test: positive and negative infinity, and a NaN
 
 pub not_finite : map if_finite (bits 0x7FF0_0000_0000_0000 ∷ bits 0xFFF0_0000_0000_0000 ∷ bits 0x7FF8_0000_0000_0000 ∷ [])
-    ≡ Void NotFinite ∷ Void NotFinite ∷ Void NotFinite ∷ []
+    ≡ Err NotFinite ∷ Err NotFinite ∷ Err NotFinite ∷ []
 unfolding finite_of of_bits
 not_finite = refl
 
@@ -50,7 +50,7 @@ not_finite = refl
 
 pub steps_are_void :
     back_of 1F 0F 1F ∷ back_of 1F 1F 0F ∷ with_revolutions 0F (bits 0xBFF0_0000_0000_0000) 1 ∷ with_revolutions 0F 0F 1 ∷ []
-    ≡ Void ZeroDivisor ∷ Void ZeroDivisor ∷ Void RefusedRoot ∷ Void ZeroDivisor ∷ []
+    ≡ Err ZeroDivisor ∷ Err ZeroDivisor ∷ Err RefusedRoot ∷ Err ZeroDivisor ∷ []
 unfolding back_of with_revolutions root_of add sub mul div neg lt eq of_bits of_int
 steps_are_void = refl
 
@@ -119,14 +119,14 @@ second_named L first reason timed void =
 
 pub second_root : (sweep_for (search_at 0xBFEF_FFFF_FFFF_FEFF 0 nan)).walk
     ≡ SomeVoid (record { j = neg_ℤ (pos 4094); reason = RefusedRoot })
-unfolding with_lambda station_of time_of outside_range x_of u_of y_of eta_of c1_of next_c half_angles_of ratio_of series_from series_of
+unfolding with_lambda station_of time_of steps_of outside_range x_of u_of y_of eta_of c1_of next_c half_angles_of ratio_of series_from series_of
     s4_of back_of g_of
     direct_of with_revolutions magnitude_of finite_of root_of add sub mul div neg lt eq of_bits of_int
 second_root = second_named 0xBFEF_FFFF_FFFF_FEFF 0xBD2F_55C2_423C_84B0 RefusedRoot refl refl
 
 pub second_divisor : (sweep_for (search_at 0xBFEF_FFFF_FFD9_9CCD 0 nan)).walk
     ≡ SomeVoid (record { j = neg_ℤ (pos 4094); reason = ZeroDivisor })
-unfolding with_lambda station_of time_of outside_range x_of u_of y_of eta_of c1_of next_c half_angles_of ratio_of series_from series_of
+unfolding with_lambda station_of time_of steps_of outside_range x_of u_of y_of eta_of c1_of next_c half_angles_of ratio_of series_from series_of
     s4_of back_of g_of
     direct_of with_revolutions magnitude_of finite_of root_of add sub mul div neg lt eq of_bits of_int
 second_divisor = second_named 0xBFEF_FFFF_FFD9_9CCD 0x3F1A_3A37_D421_2F16 ZeroDivisor refl refl

@@ -21,7 +21,7 @@ use Rattle.closed_case_laws.specs.Given.{ONE, flat, asked, with_lambda}
 use Rattle.closed_case_laws.specs.Worked.{Row, result_of, like, rows}
 use Rattle.hypergeometric.specs.Steps.{y_of, eta_of, c1_of, next_c, half_angles_of, ratio_of, series_from, series_of, s4_of, back_of, g_of}
 use Rattle.flight_time.specs.Steps.{outside_range, x_of, u_of, direct_of, with_revolutions}
-use Rattle.flight_time.specs.Time.{time_of}
+use Rattle.flight_time.specs.Time.{steps_of, time_of}
 use Rattle.solver.specs.Solve.{solve_of}
 use Rattle.demand_laws.specs.Demand.{Past}
 
@@ -30,7 +30,7 @@ unfolding rows result_of with_lambda like asked solve_of judge_of checks first_o
     time_outside many_revolutions small_buffer outside_of radius_outside no_plane short_chord flat_triangle semiperimeter_of at_least_zero
     lambda_of triangle_of shape_of norm_squared difference cross or_nan root_or_nan question_of question_bytes encode question_fields
     bytes_of
-    number_at root_of magnitude_of finite_of time_of outside_range x_of u_of y_of eta_of c1_of next_c half_angles_of ratio_of series_from
+    number_at root_of magnitude_of finite_of time_of steps_of outside_range x_of u_of y_of eta_of c1_of next_c half_angles_of ratio_of series_from
     series_of s4_of
     back_of g_of direct_of with_revolutions add sub mul div round units odd size neg lt le eq of_bits of_int to_bits
 each_row_holds = refl

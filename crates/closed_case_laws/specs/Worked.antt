@@ -1,10 +1,8 @@
 -- 01's worked cases in one table: four roots, the two exact times, two void places, and six refusals that are computed
 -- from the bytes of a question. Definitions only.
-use Rattle.std.specs.Prelude.{ℕ, ◌^◌, List, [], ◌∷◌, ℤ, pos, take, replicate}
+use Rattle.std.specs.Prelude.{ℕ, ◌^◌, List, [], ◌∷◌, ℤ, pos, take, replicate, Float, Option, Some, None}
 use Rattle.float64.specs.Notation.{bits}
 use Rattle.float64.specs.Root.{root_of}
-use Rattle.float64.specs.declared.Root.{Root}
-use Rattle.float64.specs.declared.Root.TheVariants.{Value, Refused}
 use Rattle.float64.specs.declared.Vector.{Vector}
 use Rattle.flight_time.specs.Time.{time_of}
 use Rattle.hypergeometric.specs.declared.reasons.Reason.TheVariants.{OutsideRange}
@@ -23,7 +21,7 @@ pub data Case : Type 0 where
 
 -- The result of a case: a root, a place, or the number of a refusal, which is 0 for an answer.
 pub data Result : Type 0 where
-  a_root : Root → Result
+  a_root : Option Float → Result
   a_place : Place → Result
   a_number : ℕ → Result
 
@@ -49,10 +47,10 @@ c gives r = record { case = c; result = r }
 unfoldable pub rows : List Row
 rows =
     -- Roots of 4, 0.25, 2 and −1.
-    (root 0x4010_0000_0000_0000 gives a_root (Value (bits TWO)))
-    ∷ (root 0x3FD0_0000_0000_0000 gives a_root (Value (bits HALF)))
-    ∷ (root TWO gives a_root (Value (bits 0x3FF6_A09E_667F_3BCD)))
-    ∷ (root 0xBFF0_0000_0000_0000 gives a_root Refused)
+    (root 0x4010_0000_0000_0000 gives a_root (Some (bits TWO)))
+    ∷ (root 0x3FD0_0000_0000_0000 gives a_root (Some (bits HALF)))
+    ∷ (root TWO gives a_root (Some (bits 0x3FF6_A09E_667F_3BCD)))
+    ∷ (root 0xBFF0_0000_0000_0000 gives a_root None)
     -- The two exact times: L = 0 and L = −1/2 at x = 1.
     ∷ (time 0 (pos (2 ^ 32)) 0 gives a_place (Timed (bits 0x3FE5_5555_5555_5555)))
     ∷ (time 0xBFE0_0000_0000_0000 (pos (2 ^ 32)) 0 gives a_place (Timed (bits 0x3FE8_0000_0000_0000)))

@@ -13,7 +13,7 @@ use lib.ListN.{length}
 use Rattle.float64.specs.Notation.{◌≺◌, 1F}
 use Rattle.float64.specs.Value.{magnitude_of, finite_of}
 use Rattle.flight_time.specs.Steps.{outside_range, most_revolutions}
-use Rattle.flight_time.specs.Time.{time_of}
+use Rattle.flight_time.specs.Time.{steps_of, time_of}
 use Rattle.flight_time.specs.declared.Place.{Place}
 use Rattle.flight_time.specs.declared.Place.TheVariants.{Timed, Void}
 use Rattle.crossing_laws.proofs.FiniteTimes.{timed_finite}
@@ -68,7 +68,7 @@ or_true true b e = refl
 or_true false b e = e
 
 outside_by : (s : Search) (k : ℤ) → outside_range s.triangle.lambda k s.revolutions ≡ true → side_at s k ≡ Unknown OutsideRange
-unfolding side_at side_of time_of
+unfolding side_at side_of time_of steps_of
 outside_by s k e = rw e
 
 -- |L| is not below 1, or there are more than 16 whole revolutions.

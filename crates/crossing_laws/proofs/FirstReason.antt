@@ -1,6 +1,7 @@
--- `time_of` gives the same place as the list of tests (`first_reason`). So a place is void for a reason exactly if the first test that
+-- `time_of` gives the same place as the list of tests (`first_reason`), because the steps give the same result as the list
+-- (`steps_result`). So a place is void for a reason exactly if the first test that
 -- applies has that reason (`void_first`), and it has a time exactly if no test applies (`timed_none`).
--- The steps are followed from the last to the first. The invariant is that the steps that remain give the same place as the tests that
+-- The steps are followed from the last to the first. The invariant is that the steps that remain give the same result as the tests that
 -- remain. The lemma of a step takes this for what follows the step, and shows it with the test of the step in front.
 use Prim.Native.Nat.{ℕ, zero, suc}
 use mathlib.Core.Path.{◌≡◌, refl, sym, ap, ◌∙◌}
@@ -14,11 +15,9 @@ use lib.Ieee.{Float}
 use Rattle.float64.specs.Notation.{◌⊕◌, ◌⊗◌, ◌⊘◌, ◌≈◌, float, 0F, 4F}
 use Rattle.float64.specs.Value.{finite_of}
 use Rattle.float64.specs.Root.{root_of}
-use Rattle.float64.specs.declared.Root.{Root}
-use Rattle.float64.specs.declared.Root.TheVariants.{Value, Refused}
+use Rattle.std.specs.Prelude.{Option, Some, None, Result, Ok, Err}
 use Rattle.geometry.specs.declared.Triangle.{Triangle}
 use Rattle.hypergeometric.specs.Steps.{
-  angles_after_root,
   after_root,
   dividing,
   then,
@@ -34,13 +33,9 @@ use Rattle.hypergeometric.specs.Steps.{
 }
 use Rattle.hypergeometric.specs.declared.reasons.Reason.{Reason}
 use Rattle.hypergeometric.specs.declared.reasons.Reason.TheVariants.{ZeroDivisor, NotFinite}
-use Rattle.hypergeometric.specs.declared.results.Angles.{Angles}
-use Rattle.hypergeometric.specs.declared.results.StepValue.{StepValue}
-use Rattle.hypergeometric.specs.declared.results.StepValue.TheVariants.{Number, Void}
-use Rattle.hypergeometric.specs.declared.results.HalfAngles.{HalfAngles}
-use Rattle.hypergeometric.specs.declared.results.HalfAngles.TheVariants.{Known}
+use Rattle.hypergeometric.specs.declared.Angles.{Angles}
 use Rattle.flight_time.specs.Steps.{x_of, u_of, direct_of, πF, with_revolutions}
-use Rattle.flight_time.specs.Time.{void_if, after_step, after_angles, time_of}
+use Rattle.flight_time.specs.Time.{void_if, if_finite, steps_of, as_place, time_of}
 use Rattle.flight_time.specs.declared.Place.{Place}
 use Rattle.flight_time.specs.declared.Place.TheVariants.{Timed, Void}
 use Rattle.crossing_laws.specs.StepTests.{
@@ -69,57 +64,53 @@ use Rattle.crossing_laws.specs.StepTests.{
 }
 
 -- ---- one step
--- The place that a test gives if `place` is the place that the tests after it give.
-abbrev before : Test → Place → Place
-before test place = cond test.applies (Void test.reason) place
+-- The result of the steps.
+abbrev Steps : Type 0
+Steps = Result Float Reason
+
+-- The result that a test gives if `rest` is the result that the tests after it give.
+abbrev before : Test → Steps → Steps
+before test rest = cond test.applies (Err test.reason) rest
 
 -- Step 1, and the last test.
-test_step : (test : Test) {left right : Place} → left ≡ right → void_if test.applies test.reason left ≡ before test right
+test_step : (test : Test) {left right : Steps} → left ≡ right → void_if test.applies test.reason left ≡ before test right
 test_step test {left} {right} e = by test.applies
   where
-    by : (b : Bool) → void_if b test.reason left ≡ cond b (Void test.reason) right
+    by : (b : Bool) → void_if b test.reason left ≡ cond b (Err test.reason) right
     by true = refl
     by false = e
 
--- A root of steps 2 and 3.
-root_step : (root : Root) (next : Float → HalfAngles) (rest : Angles → Place) {place : Place} →
-    after_angles (next (root_number root)) rest ≡ place →
-    after_angles (angles_after_root root next) rest ≡ before (root_test root) place
+-- A root of step 2, 3 or 7.
+root_step : {A : Type 0} (root : Option Float) (next : Float → Result A Reason) (rest : A → Steps) {result : Steps} →
+    then (next (root_number root)) rest ≡ result →
+    then (after_root root next) rest ≡ before (root_test root) result
 unfolding root_test root_number root_refused
-root_step (Value r) next rest e = e
-root_step Refused next rest e = refl
-
--- The root of step 7.
-revolving_root_step : (root : Root) (next : Float → StepValue) (rest : Float → Place) {place : Place} →
-    after_step (next (root_number root)) rest ≡ place →
-    after_step (after_root root next) rest ≡ before (root_test root) place
-unfolding root_test root_number root_refused
-revolving_root_step (Value r) next rest e = e
-revolving_root_step Refused next rest e = refl
+root_step (Some r) next rest e = e
+root_step None next rest e = refl
 
 -- A divisor of steps 5 and 7.
-dividing_step : (d : Float) (next : StepValue) (rest : Float → Place) {place : Place} →
-    after_step next rest ≡ place → after_step (dividing d next) rest ≡ before (divisor_test d) place
+dividing_step : (d : Float) (next : Steps) (rest : Float → Steps) {result : Steps} →
+    then next rest ≡ result → then (dividing d next) rest ≡ before (divisor_test d) result
 unfolding divisor_test
-dividing_step d next rest {place} e = by (d ≈ 0F)
+dividing_step d next rest {result} e = by (d ≈ 0F)
   where
-    by : (b : Bool) → after_step (cond b (Void ZeroDivisor) next) rest ≡ cond b (Void ZeroDivisor) place
+    by : (b : Bool) → then (cond b (Err ZeroDivisor) next) rest ≡ cond b (Err ZeroDivisor) result
     by true = refl
     by false = e
 
 -- Two steps in sequence. They add no test.
-then_step : (s : StepValue) (next : Float → StepValue) (rest : Float → Place) {place : Place} →
-    after_step s (λ x. after_step (next x) rest) ≡ place → after_step (then s next) rest ≡ place
-then_step (Number x) next rest e = e
-then_step (Void reason) next rest e = e
+then_step : (s : Steps) (next : Float → Steps) (rest : Float → Steps) {result : Steps} →
+    then s (λ x. then (next x) rest) ≡ result → then (then s next) rest ≡ result
+then_step (Ok x) next rest e = e
+then_step (Err reason) next rest e = e
 
 -- ---- steps 2 and 3
 -- The roots w1, w2 and w3.
-abbrev before_roots : Angles → Place → Place
-before_roots a place = before (root_test (root_of a.c1)) (before (root_test (root_of a.c2)) (before (root_test (root_of a.c3)) place))
+abbrev before_roots : Angles → Steps → Steps
+before_roots a result = before (root_test (root_of a.c1)) (before (root_test (root_of a.c2)) (before (root_test (root_of a.c3)) result))
 
-angles_step : (L x u : Float) (rest : Angles → Place) {place : Place} → rest (angle_numbers L x u) ≡ place →
-    after_angles (half_angles_of L x u) rest ≡ before (root_test (y_of L u)) (before_roots (angle_numbers L x u) place)
+angles_step : (L x u : Float) (rest : Angles → Steps) {result : Steps} → rest (angle_numbers L x u) ≡ result →
+    then (half_angles_of L x u) rest ≡ before (root_test (y_of L u)) (before_roots (angle_numbers L x u) result)
 unfolding half_angles_of angle_numbers
 angles_step L x u rest e =
     let a = angle_numbers L x u in
@@ -129,68 +120,74 @@ angles_step L x u rest e =
     root_step (y_of L u) after_y rest from-w1
   where
     -- The steps after the root w3, and those after w2, w1 and y.
-    known : Float → Float → Float → Float → HalfAngles
-    known η w1 w2 w3 = Known (record { eta = η; c1 = c1_of L x η; w1 = w1; c2 = next_c w1; w2 = w2; c3 = next_c w2; w3 = w3 })
+    known : Float → Float → Float → Float → Result Angles Reason
+    known η w1 w2 w3 = Ok (record { eta = η; c1 = c1_of L x η; w1 = w1; c2 = next_c w1; w2 = w2; c3 = next_c w2; w3 = w3 })
 
-    after_w2 : Float → Float → Float → HalfAngles
-    after_w2 η w1 w2 = angles_after_root (root_of (next_c w2)) (known η w1 w2)
+    after_w2 : Float → Float → Float → Result Angles Reason
+    after_w2 η w1 w2 = after_root (root_of (next_c w2)) (known η w1 w2)
 
-    after_w1 : Float → Float → HalfAngles
-    after_w1 η w1 = angles_after_root (root_of (next_c w1)) (after_w2 η w1)
+    after_w1 : Float → Float → Result Angles Reason
+    after_w1 η w1 = after_root (root_of (next_c w1)) (after_w2 η w1)
 
-    after_y : Float → HalfAngles
-    after_y y = let η = eta_of L x y in angles_after_root (root_of (c1_of L x η)) (after_w1 η)
+    after_y : Float → Result Angles Reason
+    after_y y = let η = eta_of L x y in after_root (root_of (c1_of L x η)) (after_w1 η)
 
 -- ---- step 5
 -- The two divisors of one n.
-abbrev before_divisors : Float → Float → Place → Place
-before_divisors w c place = before (divisor_test w) (before (divisor_test (4F ⊗ c)) place)
+abbrev before_divisors : Float → Float → Steps → Steps
+before_divisors w c result = before (divisor_test w) (before (divisor_test (4F ⊗ c)) result)
 
-back_step : (g w c : Float) (rest : Float → Place) {place : Place} →
-    rest (back_number g w c) ≡ place → after_step (back_of g w c) rest ≡ before_divisors w c place
+back_step : (g w c : Float) (rest : Float → Steps) {result : Steps} →
+    rest (back_number g w c) ≡ result → then (back_of g w c) rest ≡ before_divisors w c result
 unfolding back_of back_number
 back_step g w c rest e =
-    let quotient : StepValue = Number (back_number g w c) in
+    let quotient : Steps = Ok (back_number g w c) in
     dividing_step w (dividing (4F ⊗ c) quotient) rest (dividing_step (4F ⊗ c) quotient rest e)
 
-g_step : (a : Angles) (rest : Float → Place) {place : Place} → rest (g_number a) ≡ place →
-    after_step (g_of a) rest ≡ before_divisors a.w3 a.c3 (before_divisors a.w2 a.c2 (before_divisors a.w1 a.c1 place))
+g_step : (a : Angles) (rest : Float → Steps) {result : Steps} → rest (g_number a) ≡ result →
+    then (g_of a) rest ≡ before_divisors a.w3 a.c3 (before_divisors a.w2 a.c2 (before_divisors a.w1 a.c1 result))
 unfolding g_of g_number
 g_step a rest e =
     let g4 = series_of (s4_of a.w3) in
     let g3 = back_number g4 a.w3 a.c3 in
     let g2 = back_number g3 a.w2 a.c2 in
     let back1 = back_step g2 a.w1 a.c1 rest e in
-    let back2 = back_step g3 a.w2 a.c2 (λ g. after_step (after_g2 g) rest) back1 in
+    let back2 = back_step g3 a.w2 a.c2 (λ g. then (after_g2 g) rest) back1 in
     let from-g3 = then_step (back_of g3 a.w2 a.c2) after_g2 rest back2 in
-    let back3 = back_step g4 a.w3 a.c3 (λ g. after_step (after_g3 g) rest) from-g3 in
+    let back3 = back_step g4 a.w3 a.c3 (λ g. then (after_g3 g) rest) from-g3 in
     then_step (back_of g4 a.w3 a.c3) after_g3 rest back3
   where
     -- The steps after n = 2, and those after n = 3.
-    after_g2 : Float → StepValue
+    after_g2 : Float → Steps
     after_g2 g2 = back_of g2 a.w1 a.c1
 
-    after_g3 : Float → StepValue
+    after_g3 : Float → Steps
     after_g3 g3 = then (back_of g3 a.w2 a.c2) after_g2
 
 -- ---- step 7
-revolving_step : (direct u : Float) (m : ℕ) (rest : Float → Place) (tests : List Test) (time : Float) →
-    rest (revolved_number direct u m) ≡ place_after tests time →
-    after_step (with_revolutions direct u m) rest ≡ place_after (revolving_tests u m ++ tests) time
-unfolding with_revolutions revolved_number revolving_divisor revolving_tests place_after
+-- The result of the first test of the list that applies, or the given time if none applies.
+unfoldable result_after : List Test → Float → Steps
+result_after [] time = Ok time
+result_after (test ∷ others) time = before test (result_after others time)
+
+revolving_step : (direct u : Float) (m : ℕ) (rest : Float → Steps) (tests : List Test) (time : Float) →
+    rest (revolved_number direct u m) ≡ result_after tests time →
+    then (with_revolutions direct u m) rest ≡ result_after (revolving_tests u m ++ tests) time
+unfolding with_revolutions revolved_number revolving_divisor revolving_tests result_after
 revolving_step direct u zero rest tests time e = e
 revolving_step direct u (suc m) rest tests time e =
-    let divided = dividing_step (revolving_divisor u) (Number (revolved_number direct u (suc m))) rest e in
-    rw (eqb-suc-zero m) (revolving_root_step (root_of u) after_root_lem rest divided)
+    let divided = dividing_step (revolving_divisor u) (Ok (revolved_number direct u (suc m))) rest e in
+    rw (eqb-suc-zero m) (root_step (root_of u) divided_by rest divided)
   where
-    after_root_lem : Float → StepValue
-    after_root_lem root = dividing (u ⊗ root) (Number (direct ⊕ (float (pos (suc m)) ⊗ πF) ⊘ (u ⊗ root)))
+    -- The division that follows the root.
+    divided_by : Float → Steps
+    divided_by root = dividing (u ⊗ root) (Ok (direct ⊕ (float (pos (suc m)) ⊗ πF) ⊘ (u ⊗ root)))
 
 -- ---- all steps
-pub first_reason : (t : Triangle) (k : ℤ) (revolutions : ℕ) →
-    time_of t k revolutions ≡ place_after (tests_of t k revolutions) (time_number t k revolutions)
-unfolding time_of place_after tests_of range_test finite_test time_number
-first_reason t k revolutions =
+steps_result : (t : Triangle) (k : ℤ) (revolutions : ℕ) →
+    steps_of t.lambda k revolutions ≡ result_after (tests_of t k revolutions) (time_number t k revolutions)
+unfolding steps_of result_after tests_of range_test finite_test time_number
+steps_result t k revolutions =
     let L = t.lambda in
     let x = x_of k in
     let u = u_of x in
@@ -198,20 +195,36 @@ first_reason t k revolutions =
     let direct = direct_of L a.eta (g_number a) in
     let time = time_number t k revolutions in
     let finite = test_step (finite_test time) refl in
-    let revolved = revolving_step direct u revolutions after_time (finite_test time ∷ []) time finite in
+    let revolved = revolving_step direct u revolutions if_finite (finite_test time ∷ []) time finite in
     let undone = g_step a (after_g a) revolved in
-    let angles = angles_step L x u after_angles_lem undone in
+    let angles = angles_step L x u after_angles undone in
     test_step (range_test L k revolutions) angles
   where
-    -- The steps after the time is known, and those after G and the angles.
-    after_time : Float → Place
-    after_time time = void_if (not (finite_of time)) NotFinite (Timed time)
+    -- The steps after G and those after the angles.
+    after_g : Angles → Float → Steps
+    after_g a g = then (with_revolutions (direct_of t.lambda a.eta g) (u_of (x_of k)) revolutions) if_finite
 
-    after_g : Angles → Float → Place
-    after_g a g = after_step (with_revolutions (direct_of t.lambda a.eta g) (u_of (x_of k)) revolutions) after_time
+    after_angles : Angles → Steps
+    after_angles a = then (g_of a) (after_g a)
 
-    after_angles_lem : Angles → Place
-    after_angles_lem a = after_step (g_of a) (after_g a)
+-- The place of a list of tests is the place for its result.
+place_is : (tests : List Test) (time : Float) → as_place (result_after tests time) ≡ place_after tests time
+unfolding result_after place_after
+place_is [] time = refl
+place_is (test ∷ others) time = by (place_is others time) test.applies
+  where
+    by : as_place (result_after others time) ≡ place_after others time → (b : Bool) →
+        as_place (cond b (Err test.reason) (result_after others time)) ≡ cond b (Void test.reason) (place_after others time)
+    by rest true = refl
+    by rest false = rest
+
+pub first_reason : (t : Triangle) (k : ℤ) (revolutions : ℕ) →
+    time_of t k revolutions ≡ place_after (tests_of t k revolutions) (time_number t k revolutions)
+unfolding time_of
+first_reason t k revolutions =
+    let tests = tests_of t k revolutions in
+    let time = time_number t k revolutions in
+    ap as_place (steps_result t k revolutions) ∙ place_is tests time
 
 -- ---- the first test that applies, for any list of tests
 module _ (time : Float) where

@@ -1,18 +1,16 @@
 -- The reason why a place is void, stated as a plain list of tests (02, A4): what the steps of 01 (Time at one place) ask, in their order.
 -- The first test that applies gives the reason, and the place has a time if none applies. Every number is computed whatever the tests say:
 -- a refused root counts as a NaN, and a quotient by zero is the f64 quotient. Definitions only.
-use Rattle.std.specs.Prelude.{ℕ, zero, suc, ◌≡◌, Bool, true, false, not, cond, List, [], ◌∷◌, ◌++◌, ℤ, pos, Float}
+use Rattle.std.specs.Prelude.{ℕ, zero, suc, ◌≡◌, Bool, true, false, not, cond, List, [], ◌∷◌, ◌++◌, ℤ, pos, Float, Option, Some, None}
 use Rattle.std.specs.Float.{nan}
 use Rattle.float64.specs.Notation.{◌⊕◌, ◌⊗◌, ◌⊘◌, ◌≈◌, float, 0F, 3F, 4F}
 use Rattle.float64.specs.Value.{finite_of}
 use Rattle.float64.specs.Root.{root_of}
-use Rattle.float64.specs.declared.Root.{Root}
-use Rattle.float64.specs.declared.Root.TheVariants.{Value, Refused}
 use Rattle.geometry.specs.declared.Triangle.{Triangle}
 use Rattle.hypergeometric.specs.Steps.{y_of, eta_of, c1_of, next_c, s4_of, series_of}
 use Rattle.hypergeometric.specs.declared.reasons.Reason.{Reason}
 use Rattle.hypergeometric.specs.declared.reasons.Reason.TheVariants.{OutsideRange, RefusedRoot, ZeroDivisor, NotFinite}
-use Rattle.hypergeometric.specs.declared.results.Angles.{Angles}
+use Rattle.hypergeometric.specs.declared.Angles.{Angles}
 use Rattle.flight_time.specs.Steps.{outside_range, x_of, u_of, direct_of, πF}
 use Rattle.flight_time.specs.declared.Place.{Place}
 use Rattle.flight_time.specs.declared.Place.TheVariants.{Timed, Void}
@@ -42,14 +40,14 @@ pub data NoneApplies : List Test → Type 0 where
 
 -- ---- the numbers of the steps
 -- Whether a root is refused.
-unfoldable pub root_refused : Root → Bool
-root_refused (Value r) = false
-root_refused Refused = true
+unfoldable pub root_refused : Option Float → Bool
+root_refused (Some r) = false
+root_refused None = true
 
 -- The number of a root. A refused root counts as a NaN.
-unfoldable pub root_number : Root → Float
-root_number (Value r) = r
-root_number Refused = nan
+unfoldable pub root_number : Option Float → Float
+root_number (Some r) = r
+root_number None = nan
 
 -- Steps 2 and 3: η, and C_n and w_n for n = 1, 2, 3.
 unfoldable pub angle_numbers : Float → Float → Float → Angles
@@ -98,7 +96,7 @@ unfoldable pub range_test : Float → ℤ → ℕ → Test
 range_test L k revolutions = record { reason = OutsideRange; applies = outside_range L k revolutions }
 
 -- A root that can be refused.
-unfoldable pub root_test : Root → Test
+unfoldable pub root_test : Option Float → Test
 root_test root = record { reason = RefusedRoot; applies = root_refused root }
 
 -- A divisor that can be zero.

@@ -1,12 +1,11 @@
 -- Steps 1, 6 and 7 of the time at one place, and x and u (01, Time at one place). Steps 2 to 5, apart from u, are in
 -- the crate `hypergeometric`. Definitions only; Time.antt puts the steps together.
-use Rattle.std.specs.Prelude.{ℕ, ◌-◌, ◌*◌, ◌^◌, Bool, cond, not, ◌&&◌, ◌||◌, ℤ, pos, neg_ℤ, ◌==◌, int_lt, nat_le, nat_lt, Float}
+use Rattle.std.specs.Prelude.{ℕ, ◌-◌, ◌*◌, ◌^◌, Bool, cond, not, ◌&&◌, ◌||◌, ℤ, pos, neg_ℤ, ◌==◌, int_lt, nat_le, nat_lt, Float, Result, Ok}
 use Rattle.float64.specs.Notation.{◌⊕◌, ◌⊖◌, ◌⊗◌, ◌⊘◌, ◌≺◌, bits, float, 1F, 2F, 3F, 4F}
 use Rattle.float64.specs.Value.{magnitude_of}
 use Rattle.float64.specs.Root.{root_of}
 use Rattle.hypergeometric.specs.Steps.{after_root, dividing}
-use Rattle.hypergeometric.specs.declared.results.StepValue.{StepValue}
-use Rattle.hypergeometric.specs.declared.results.StepValue.TheVariants.{Number}
+use Rattle.hypergeometric.specs.declared.reasons.Reason.{Reason}
 
 -- The difference in k that makes a difference of 1 in x.
 abbrev pub unit : ℕ
@@ -61,8 +60,8 @@ direct_of L η g = (((η ⊗ η) ⊗ η) ⊗ ((4F ⊗ g) ⊘ 3F) ⊕ (4F ⊗ L) 
 abbrev pub πF : Float
 πF = bits 0x4009_21FB_5444_2D18
 
-unfoldable pub with_revolutions : Float → Float → ℕ → StepValue
+unfoldable pub with_revolutions : Float → Float → ℕ → Result Float Reason
 with_revolutions t u revolutions =
-    cond (revolutions == 0) (Number t)
+    cond (revolutions == 0) (Ok t)
     (after_root (root_of u) (λ root.
-    dividing (u ⊗ root) (Number (t ⊕ (float (pos revolutions) ⊗ πF) ⊘ (u ⊗ root)))))
+    dividing (u ⊗ root) (Ok (t ⊕ (float (pos revolutions) ⊗ πF) ⊘ (u ⊗ root)))))

@@ -1,6 +1,6 @@
 -- The cases of `square_root`: a zero (`of_zero`), a positive finite number (`of_positive`), and all others, which are refused
 -- (`of_refused`). The bits of a positive finite number are above those of +0 and below those of +infinity (`positive_bits`).
-use Rattle.std.proofs.Common.{◌≡◌, ℕ, zero, suc, ◌+◌, ◌*◌, ◌/◌, ◌%◌, ◌^◌, ◌<◌, ◌≤◌, Bool, true, false, cond, not, ◌&&◌, T, eqb, ltb, leb}
+use Rattle.std.proofs.Common.{◌≡◌, ℕ, zero, suc, ◌+◌, ◌*◌, ◌/◌, ◌%◌, ◌^◌, ◌<◌, ◌≤◌, Bool, true, false, cond, not, ◌&&◌, T, eqb, ltb, leb, Some, None}
 use Rattle.std.proofs.Common.{◌⊎◌, sym, refl, ap, ◌∙◌, subst, inl, inr, true≢false, lt_of_not-le, arith, le→leb, ltb→lt, nltb→le}
 use mathlib.Core.Bool.{false≢true}
 use lib.Ieee.{Float, nan, inf, fin, binary64, fits, is_nan, eq, lt, of_fields, of_bits, to_bits}
@@ -9,13 +9,12 @@ use Rattle.float64.specs.Notation.{◌≺◌, ◌≈◌, 0F}
 use Rattle.float64.specs.Value.{finite_of}
 use Rattle.float64.specs.Root.{root_of, root_of_units}
 use Rattle.float64.specs.Internals.{units_at, units_of_bits, Positive}
-use Rattle.float64.specs.declared.Root.TheVariants.{Value, Refused}
 use Rattle.float64.proofs.Comparisons.{zero_is_zero, zero_not_above, some_not_zero, some_above}
 use Rattle.float64.proofs.Patterns.{root_of_positive, root_of_negative, of_bits_is, clear, fields_units}
 use Rattle.float64.proofs.Patterns.{units_pos, has_units, units_of_bits_pos}
 
 -- ---- a zero
-pub of_zero : (x : Float) → (x ≈ 0F) ≡ true → Value x ≡ root_of x
+pub of_zero : (x : Float) → (x ≈ 0F) ≡ true → Some x ≡ root_of x
 unfolding root_of eq of_bits
 of_zero nan e = absurd (false≢true e)
 of_zero (inf s) e = absurd (false≢true e)
@@ -23,7 +22,7 @@ of_zero (fin s zero d) e = refl
 of_zero (fin s (suc m) d) e = absurd (false≢true (sym (some_not_zero s m d) ∙ e))
 
 -- ---- refused values
-pub of_refused : (x : Float) → (x ≈ 0F) ≡ false → (0F ≺ x) && finite_of x ≡ false → Refused ≡ root_of x
+pub of_refused : (x : Float) → (x ≈ 0F) ≡ false → (0F ≺ x) && finite_of x ≡ false → None ≡ root_of x
 unfolding root_of finite_of
 of_refused nan e l = refl
 of_refused (inf s) e l = refl
@@ -38,7 +37,7 @@ no_nan nan l = absurd (false≢true l)
 no_nan (inf s) l = tt
 no_nan (fin s m e) l = tt
 
-not_refused : (x : Float) → Positive x → root_of x ≡ Refused → ⊥
+not_refused : (x : Float) → Positive x → root_of x ≡ None → ⊥
 unfolding root_of finite_of lt of_bits
 not_refused nan l e = false≢true l
 not_refused (inf true) l e = false≢true l
@@ -53,25 +52,25 @@ not_zeros b (inl e) l = false≢true (subst (λ (y : ℕ). Positive (of_bits bin
 not_zeros b (inr e) l = false≢true (subst (λ (y : ℕ). Positive (of_bits binary64 y)) e l)
 
 -- The bits of a positive number. From the pattern of +infinity up, the root of every f64 except -0 is refused.
-at_ones : (s : Bool) (t : ℕ) → root_of (of_fields binary64 s 2047 t) ≡ Refused
+at_ones : (s : Bool) (t : ℕ) → root_of (of_fields binary64 s 2047 t) ≡ None
 unfolding root_of of_fields
 at_ones s t = by (eqb t 0)
   where
-    by : (b : Bool) → root_of (cond b (inf s) nan) ≡ Refused
+    by : (b : Bool) → root_of (cond b (inf s) nan) ≡ None
     by true = refl
     by false = refl
 
-negative_fields : (x t : ℕ) → x < 2048 → 0 < x * 2 ^ 52 + t → root_of (of_fields binary64 true x t) ≡ Refused
+negative_fields : (x t : ℕ) → x < 2048 → 0 < x * 2 ^ 52 + t → root_of (of_fields binary64 true x t) ≡ None
 negative_fields x t h p = by (ltb x 2047) (ltb→lt x 2047) (nltb→le x 2047)
   where
     only : (y : ℕ) → y < 2048 → 2047 ≤ y → 2047 ≡ y
     only y a b = omega arith
 
-    by : (b : Bool) → (T b → x < 2047) → (T (not b) → 2047 ≤ x) → root_of (of_fields binary64 true x t) ≡ Refused
+    by : (b : Bool) → (T b → x < 2047) → (T (not b) → 2047 ≤ x) → root_of (of_fields binary64 true x t) ≡ None
     by true l g = root_of_negative (of_fields binary64 true x t) (units_at x t) (units_pos x t p) (fields_units true x t (l tt))
-    by false l g = subst (λ (y : ℕ). root_of (of_fields binary64 true y t) ≡ Refused) (only x h (g tt)) (at_ones true t)
+    by false l g = subst (λ (y : ℕ). root_of (of_fields binary64 true y t) ≡ None) (only x h (g tt)) (at_ones true t)
 
-refused_bits_lem : (b : ℕ) → 0x7FF0_0000_0000_0000 ≤ b → (b ≡ 2 ^ 63 → ⊥) → b < 2 ^ 64 → root_of (of_bits binary64 b) ≡ Refused
+refused_bits_lem : (b : ℕ) → 0x7FF0_0000_0000_0000 ≤ b → (b ≡ 2 ^ 63 → ⊥) → b < 2 ^ 64 → root_of (of_bits binary64 b) ≡ None
 refused_bits_lem b lo ne hi = by (ltb b (2 ^ 63)) (ltb→lt b (2 ^ 63)) (nltb→le b (2 ^ 63))
   where
     field : (y : ℕ) → 0x7FF0_0000_0000_0000 ≤ y → y < 2 ^ 63 → y / 2 ^ 52 ≡ 2047
@@ -83,7 +82,7 @@ refused_bits_lem b lo ne hi = by (ltb b (2 ^ 63)) (ltb→lt b (2 ^ 63)) (nltb→
     some : (y : ℕ) → 2 ^ 63 ≤ y → (y ≡ 2 ^ 63 → ⊥) → y < 2 ^ 64 → 0 < y % 2 ^ 63 / 2 ^ 52 * 2 ^ 52 + y % 2 ^ 52
     some y a f c = omega arith
 
-    by : (t : Bool) → (T t → b < 2 ^ 63) → (T (not t) → 2 ^ 63 ≤ b) → root_of (of_bits binary64 b) ≡ Refused
+    by : (t : Bool) → (T t → b < 2 ^ 63) → (T (not t) → 2 ^ 63 ≤ b) → root_of (of_bits binary64 b) ≡ None
     by true l g =
         ap root_of (clear b (l tt)) ∙ ap (λ (x : ℕ). root_of (of_fields binary64 false x (b % 2 ^ 52))) (field b lo (l tt))
         ∙ at_ones false (b % 2 ^ 52)
@@ -107,15 +106,15 @@ positive_bits x l h =
     none y k = omega arith
 
 pub of_positive : (x r : Float) → T (fits binary64 x) → 0 < to_bits binary64 x → to_bits binary64 x < 0x7FF0_0000_0000_0000
-    → r ≡ root_of_units (units_of_bits (to_bits binary64 x)) → Value r ≡ root_of x
+    → r ≡ root_of_units (units_of_bits (to_bits binary64 x)) → Some r ≡ root_of x
 of_positive x r h p l e =
     let b = to_bits binary64 x in
-    ap Value e ∙ sym (root_of_positive (of_bits binary64 b) (units_of_bits b) (units_of_bits_pos b p) (has_units b l))
+    ap Some e ∙ sym (root_of_positive (of_bits binary64 b) (units_of_bits b) (units_of_bits_pos b p) (has_units b l))
     ∙ ap root_of (of_bits-to_bits binary64 x h)
 
 -- A number whose bits are those of the root of a positive finite x.
 pub root_by_bits : (x r : Float) → Positive x → T (fits binary64 x) → T (fits binary64 r)
-    → of_bits binary64 (to_bits binary64 r) ≡ root_of_units (units_of_bits (to_bits binary64 x)) → Value r ≡ root_of x
+    → of_bits binary64 (to_bits binary64 r) ≡ root_of_units (units_of_bits (to_bits binary64 x)) → Some r ≡ root_of x
 root_by_bits x r p h g e =
     let b = positive_bits x p h in
     of_positive x r h b.0 b.1 (sym (of_bits-to_bits binary64 r g) ∙ e)

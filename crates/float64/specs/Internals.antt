@@ -1,11 +1,10 @@
 -- The definitions that the contracts of the square root's private functions cite.
 -- Definitions only; no public contract cites them.
-use Rattle.std.specs.Prelude.{◌≡◌, ℕ, zero, suc, ◌+◌, ◌*◌, ◌/◌, ◌%◌, ◌^◌, ◌<◌, ◌≤◌, true, cond, ◌&&◌, Float}
+use Rattle.std.specs.Prelude.{◌≡◌, ℕ, zero, suc, ◌+◌, ◌*◌, ◌/◌, ◌%◌, ◌^◌, ◌<◌, ◌≤◌, true, cond, ◌&&◌, Float, Some}
 use Rattle.std.specs.Float.Ieee.{size}
 use Rattle.float64.specs.Notation.{◌≺◌, 0F, bits}
 use Rattle.float64.specs.Value.{finite_of}
 use Rattle.float64.specs.Root.{half_length, root_of}
-use Rattle.float64.specs.declared.Root.TheVariants.{Value}
 
 -- The bit pattern of +∞. The positive finite f64s are those with patterns above 0 and below this one.
 abbrev pub infinity_bits : ℕ
@@ -72,4 +71,4 @@ outside_of x = cond ((low_end ≺ x) && (x ≺ high_end)) 0 1
 
 -- r is above zero only if it is the root of x.
 abbrev pub RootIfPositive : Float → Float → Type 0
-RootIfPositive r x = (0F ≺ r) ≡ true → Value r ≡ root_of x
+RootIfPositive r x = (0F ≺ r) ≡ true → Some r ≡ root_of x

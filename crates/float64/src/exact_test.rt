@@ -1,9 +1,8 @@
 // The exact test of an estimated root, in whole numbers.
-ghost use Rattle.std.specs.Prelude.{◌≡◌, ◌^◌, ◌<◌, ◌≤◌, true};
+ghost use Rattle.std.specs.Prelude.{◌≡◌, ◌^◌, ◌<◌, ◌≤◌, true, Some};
 ghost use Rattle.float64.specs.Notation.{bits};
 ghost use Rattle.float64.specs.Root.{root_of, root_of_units};
 ghost use Rattle.float64.specs.Internals.{infinity_bits, units_of_bits, Inside};
-ghost use Rattle.float64.specs.declared.Root.TheVariants.{Value};
 
 use crate::bit_patterns::LEADING_DIGIT;
 use crate::estimate::HIGH_END;
@@ -50,7 +49,7 @@ pub(crate) fn mismatch_of(b: u64, c: u64) -> u64
 // Returns true only if `root` is the square root of x.
 pub(crate) fn is_root(x: f64, root: f64) -> bool
     requires { Inside x }
-    ensures { result ≡ true → Value root ≡ root_of x }
+    ensures { result ≡ true → Some root ≡ root_of x }
 {
     if root < HIGH_END {
         return mismatch_of(f64::to_bits(x), f64::to_bits(root)) == 0;

@@ -19,7 +19,7 @@ use digits::floor_root;
 use estimate::{HIGH_END, LOW_END, estimated_root};
 use exact_test::is_root;
 use operand::operand_of;
-pub use side_by_side::{Four, FourRoots, four_roots};
+pub use side_by_side::{Four, four_roots};
 pub use value::{from_bits, is_finite, magnitude, to_bits};
 
 // A vector of three components. It represents a position in km, a velocity in km/s, a direction, or a cross product of
@@ -31,39 +31,32 @@ pub struct Vector {
     pub z: f64,
 }
 
-// The result of a square root. It is `Refused` for a number below zero, an infinity or a NaN.
-#[derive(Clone, Copy)]
-pub enum Root {
-    Value(f64),
-    Refused,
-}
-
-// Returns the f64 nearest to the square root of x. The root of a zero is that same zero, with its sign. A number below zero, an
-// infinity and a NaN are refused. The root is estimated in f64, and the estimate is tested exactly. If it is not the root, or
+// Returns the f64 nearest to the square root of x. The root of a zero is that same zero, with its sign. The result is `None` for a number
+// below zero, an infinity and a NaN. The root is estimated in f64, and the estimate is tested exactly. If it is not the root, or
 // if x is too small or too large for an estimate, the root is computed digit by digit.
-pub fn square_root(x: f64) -> Root
+pub fn square_root(x: f64) -> Option<f64>
     ensures { result ≡ root_of x }
 {
     if (LOW_END < x) & (x < HIGH_END) {
         let root = estimated_root(x);
         if is_root(x, root) {
-            return Root::Value(root);
+            return Some(root);
         }
     }
     root_by_digits(x)
 }
 
 // Returns what `square_root` returns, computed in whole numbers.
-fn root_by_digits(x: f64) -> Root
+fn root_by_digits(x: f64) -> Option<f64>
     ensures { result ≡ root_of x }
 {
     if x == 0.0 {
-        return Root::Value(x);
+        return Some(x);
     }
     if (0.0 < x) & is_finite(x) {
-        Root::Value(positive_root(f64::to_bits(x)))
+        Some(positive_root(f64::to_bits(x)))
     } else {
-        Root::Refused
+        None
     }
 }
 

@@ -5,7 +5,7 @@ ghost use Rattle.float64.specs.Internals.{Positive, RootIfPositive, clamped_of, 
 
 use crate::estimate::{HIGH_END, LOW_END, at_most_high_end, estimated_root};
 use crate::exact_test::mismatch_of;
-use crate::{Root, square_root};
+use crate::square_root;
 
 // Four numbers.
 #[derive(Clone, Copy)]
@@ -14,13 +14,6 @@ pub struct Four {
     pub b: f64,
     pub c: f64,
     pub d: f64,
-}
-
-// The result of four square roots: the roots, or `SomeRefused` if at least one of them is refused.
-#[derive(Clone, Copy)]
-pub enum FourRoots {
-    Values(Four),
-    SomeRefused,
 }
 
 // Returns x, or the nearer of LOW_END and HIGH_END if x is not strictly between them. For a NaN it returns HIGH_END.
@@ -83,33 +76,26 @@ fn estimated_roots(x: Four) -> Four
     }
 }
 
-// Returns the four roots, each computed by itself, or `SomeRefused`.
-fn in_turn(x: Four) -> FourRoots
+// Returns the four roots, each computed by itself, or `None`.
+#[tactic(auto, unfolding(crate::specs::FourRoots::four_roots_of))]
+fn in_turn(x: Four) -> Option<Four>
     ensures { result ≡ four_roots_of x }
 {
-    let Root::Value(a) = square_root(x.a) else {
-        return FourRoots::SomeRefused;
-    };
-    let Root::Value(b) = square_root(x.b) else {
-        return FourRoots::SomeRefused;
-    };
-    let Root::Value(c) = square_root(x.c) else {
-        return FourRoots::SomeRefused;
-    };
-    let Root::Value(d) = square_root(x.d) else {
-        return FourRoots::SomeRefused;
-    };
-    FourRoots::Values(Four { a, b, c, d })
+    let a = square_root(x.a)?;
+    let b = square_root(x.b)?;
+    let c = square_root(x.c)?;
+    let d = square_root(x.d)?;
+    Some(Four { a, b, c, d })
 }
 
-// Returns the square roots of four numbers, or `SomeRefused` if at least one of them has none. If one of the four estimates cannot be
+// Returns the square roots of four numbers, or `None` if at least one of them has none. If one of the four estimates cannot be
 // used, all four roots are computed one after the other.
-pub fn four_roots(x: Four) -> FourRoots
+pub fn four_roots(x: Four) -> Option<Four>
     ensures { result ≡ four_roots_of x }
 {
     let roots = estimated_roots(x);
     if (0.0 < roots.a) & (0.0 < roots.b) & (0.0 < roots.c) & (0.0 < roots.d) {
-        return FourRoots::Values(roots);
+        return Some(roots);
     }
     in_turn(x)
 }

@@ -21,8 +21,8 @@ at_least_zero x = cond (x ≺ 0F) 0F x
 unfoldable pub lambda_of : Float → Float → Bool → Float
 lambda_of c s long = let root = root_or_nan (at_least_zero (1F ⊖ c ⊘ s)) in cond long (neg root) root
 
--- κ for the chord c and the semiperimeter s (02, A5): c/s, or 1 if that rounds above 1. The time steps receive it beside the triangle. In
--- exact arithmetic it is 1 − L².
+-- κ for the chord c and the semiperimeter s (02, A5): c/s, or 1 if that rounds above 1. In exact arithmetic it is 1 − L². The time steps
+-- do not use it.
 unfoldable pub kappa_of : Float → Float → Float
 kappa_of c s = cond (1F ≺ c ⊘ s) 1F (c ⊘ s)
 

@@ -7,6 +7,7 @@ use float64::is_finite;
 
 // Reports whether x is not finite, is below `low`, or is above `high`. Both ends of the range are
 // inside.
+#[tactic(auto, unfolding(crate::specs::Conditions::outside_of))]
 pub fn outside(low: f64, high: f64, x: f64) -> bool
     ensures { result ≡ outside_of low high x }
 {
@@ -14,6 +15,7 @@ pub fn outside(low: f64, high: f64, x: f64) -> bool
 }
 
 // Check 3: reports whether a radius is not finite, is below 1, or is above 2^40.
+#[tactic(auto, unfolding(crate::specs::Conditions::radius_outside))]
 pub fn radius_outside(shape: Shape) -> bool
     ensures { result ≡ radius_outside shape }
 {
@@ -22,6 +24,7 @@ pub fn radius_outside(shape: Shape) -> bool
 
 // Check 8: reports whether the positions define no plane, which means that hh is at most 2^-40 times
 // the product of q1 and q2.
+#[tactic(auto, unfolding(crate::specs::Conditions::no_plane))]
 pub fn no_plane(shape: Shape) -> bool
     ensures { result ≡ no_plane shape }
 {
@@ -29,6 +32,7 @@ pub fn no_plane(shape: Shape) -> bool
 }
 
 // Check 9: reports whether the chord divided by the semiperimeter is below 2^-10.
+#[tactic(auto, unfolding(crate::specs::Conditions::short_chord))]
 pub fn short_chord(triangle: Triangle) -> bool
     ensures { result ≡ short_chord triangle }
 {
@@ -36,6 +40,7 @@ pub fn short_chord(triangle: Triangle) -> bool
 }
 
 // Check 10: reports whether 1 - rho * rho is at most 0. The root of that number is sigma.
+#[tactic(auto, unfolding(crate::specs::Conditions::flat_triangle))]
 pub fn flat_triangle(triangle: Triangle) -> bool
     ensures { result ≡ flat_triangle triangle }
 {

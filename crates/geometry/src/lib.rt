@@ -53,6 +53,7 @@ pub struct Frame {
 }
 
 // Returns half of the sum of the triangle's sides.
+#[tactic(auto, unfolding(crate::specs::Triangles::semiperimeter_of))]
 fn semiperimeter(radius1: f64, radius2: f64, chord: f64) -> f64
     ensures { result ≡ semiperimeter_of radius1 radius2 chord }
 {
@@ -61,6 +62,7 @@ fn semiperimeter(radius1: f64, radius2: f64, chord: f64) -> f64
 
 // Returns x, or 0 if x is below 0. `lambda` needs this because rounding can make the chord longer
 // than the semiperimeter.
+#[tactic(auto, unfolding(crate::specs::Triangles::at_least_zero))]
 fn at_least_zero(x: f64) -> f64
     ensures { result ≡ at_least_zero x }
 {
@@ -68,6 +70,7 @@ fn at_least_zero(x: f64) -> f64
 }
 
 // Returns L, negated for the long way.
+#[tactic(auto, unfolding(crate::specs::Triangles::lambda_of))]
 fn lambda(chord: f64, semiperimeter: f64, long_way: bool) -> f64
     ensures { result ≡ lambda_of chord semiperimeter long_way }
 {
@@ -77,6 +80,7 @@ fn lambda(chord: f64, semiperimeter: f64, long_way: bool) -> f64
 
 // Returns κ: the chord divided by the semiperimeter, or 1 if that quotient is above 1 (02, A5). In exact
 // arithmetic κ is 1 - L^2. Rounding can make the chord longer than the semiperimeter.
+#[tactic(auto, unfolding(crate::specs::Triangles::kappa_of))]
 pub fn kappa(chord: f64, semiperimeter: f64) -> f64
     ensures { result ≡ kappa_of chord semiperimeter }
 {
@@ -85,6 +89,7 @@ pub fn kappa(chord: f64, semiperimeter: f64) -> f64
 }
 
 // Returns the triangle of two radii and the chord between their ends.
+#[tactic(auto, unfolding(crate::specs::Triangles::triangle_of))]
 pub fn triangle_of(radius1: f64, radius2: f64, chord: f64, long_way: bool) -> Triangle
     ensures { result ≡ triangle_of radius1 radius2 chord long_way }
 {
@@ -100,6 +105,7 @@ pub fn triangle_of(radius1: f64, radius2: f64, chord: f64, long_way: bool) -> Tr
 }
 
 // Returns the shape of two positions and the way between them.
+#[tactic(auto, unfolding(crate::specs::Triangles::shape_of))]
 pub fn shape_of(position1: Vector, position2: Vector, long_way: bool) -> Shape
     ensures { result ≡ shape_of position1 position2 long_way }
 {
@@ -124,6 +130,7 @@ pub fn shape_of(position1: Vector, position2: Vector, long_way: bool) -> Shape
 
 // Returns the unit vectors of two positions, given their shape. If the positions define no plane, the
 // normal is meaningless.
+#[tactic(auto, unfolding(crate::specs::Triangles::frame_of))]
 pub fn frame_of(position1: Vector, position2: Vector, shape: Shape, long_way: bool) -> Frame
     ensures { result ≡ frame_of position1 position2 shape long_way }
 {
@@ -143,6 +150,7 @@ fn turned(v: Vector, long_way: bool) -> Vector
 }
 
 // Returns the wanted time: the question's time in the unit that mu and the semiperimeter define.
+#[tactic(auto, unfolding(crate::specs::Triangles::wanted_of))]
 pub fn wanted_time(mu: f64, semiperimeter: f64, time: f64) -> f64
     ensures { result ≡ wanted_of mu semiperimeter time }
 {

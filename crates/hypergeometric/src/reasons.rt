@@ -3,7 +3,7 @@ ghost use Rattle.std.specs.Prelude.{◌≡◌};
 ghost use Rattle.hypergeometric.specs.Reasons.{reason_number};
 
 // The reason why a place has no time. If several apply, the first one met in the steps counts.
-#[derive(Clone, Copy)]
+#[derive(Clone, Copy, Debug, PartialEq, Eq)]
 pub enum Reason {
     // L, k or the number of whole revolutions is outside its range (step 1).
     OutsideRange,
@@ -15,14 +15,17 @@ pub enum Reason {
     NotFinite,
 }
 
-// Returns the number of a reason.
-pub fn reason_number(reason: Reason) -> u16
-    ensures { result ≡ reason_number reason }
-{
-    match reason {
-        Reason::OutsideRange => 1,
-        Reason::RefusedRoot => 2,
-        Reason::ZeroDivisor => 3,
-        Reason::NotFinite => 4,
+impl From<Reason> for u16 {
+    ghost from_gives = { λ reason n. n ≡ reason_number reason };
+
+    // Returns the number of a reason.
+    #[tactic(auto, unfolding(crate::specs::Reasons::reason_number))]
+    fn from(reason: Reason) -> u16 {
+        match reason {
+            Reason::OutsideRange => 1,
+            Reason::RefusedRoot => 2,
+            Reason::ZeroDivisor => 3,
+            Reason::NotFinite => 4,
+        }
     }
 }

@@ -25,6 +25,7 @@ const LAST_STATION_REVOLVING: u16 = ((Place::HIGHEST_REVOLVING - Place::LOWEST)
     / Place::STATION_SPACING) as u16;
 
 // Returns the place of station i, counted from 0.
+#[tactic(auto, unfolding(crate::specs::Stations::station_of))]
 pub fn station(i: u16) -> i64
     ensures { result ≡ station_of i }
 {
@@ -39,6 +40,7 @@ pub fn station_j(i: u16) -> i32
 }
 
 // Returns the index of the last station for the given number of whole revolutions.
+#[tactic(auto, unfolding(crate::specs::Stations::last_of))]
 pub fn last_station(revolutions: u16) -> u16
     ensures { result ≡ last_of revolutions }
 {

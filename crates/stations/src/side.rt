@@ -8,7 +8,7 @@ use hypergeometric::Reason;
 
 // The side of a place. A place with a time is below the wanted time or not below it; an equal time
 // is not below. The side of a void place is `Unknown`, with the reason why the place is void.
-#[derive(Clone, Copy)]
+#[derive(Clone, Copy, Debug, PartialEq, Eq)]
 pub enum Side {
     Below,
     NotBelow,
@@ -16,6 +16,7 @@ pub enum Side {
 }
 
 // Returns the side of place k in a search.
+#[tactic(auto, unfolding(crate::specs::Sides::side_at))]
 pub fn side_at(search: Search, k: i64) -> Side
     ensures { result ≡ side_at search k }
 {
@@ -26,6 +27,7 @@ pub fn side_at(search: Search, k: i64) -> Side
     )
 }
 
+#[tactic(auto, unfolding(crate::specs::Sides::side_of))]
 fn side_of(place: Place, wanted: f64) -> Side
     ensures { result ≡ side_of place wanted }
 {
@@ -45,28 +47,15 @@ fn side_of(place: Place, wanted: f64) -> Side
 pub fn are_opposite(a: Side, b: Side) -> bool
     ensures { result ≡ opposite a b }
 {
-    match a {
-        Side::Below => match b {
-            Side::Below => false,
-            Side::NotBelow => true,
-            Side::Unknown(_) => false,
-        },
-        Side::NotBelow => match b {
-            Side::Below => true,
-            Side::NotBelow => false,
-            Side::Unknown(_) => false,
-        },
-        Side::Unknown(_) => false,
-    }
+    matches!(
+        (a, b),
+        (Side::Below, Side::NotBelow) | (Side::NotBelow, Side::Below)
+    )
 }
 
 // Reports whether a side is `Unknown`, the side of a void place.
 pub fn is_unknown(side: Side) -> bool
     ensures { result ≡ is_unknown side }
 {
-    match side {
-        Side::Below => false,
-        Side::NotBelow => false,
-        Side::Unknown(_) => true,
-    }
+    matches!(side, Side::Unknown(_))
 }

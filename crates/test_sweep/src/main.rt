@@ -8,7 +8,6 @@
 ghost use Rattle.std.specs.Prelude.{◌≡◌};
 ghost use Rattle.little_endian.specs.Bytes.{number_at};
 
-use hypergeometric::reason_number;
 use stations::Search;
 use std::io;
 use std::io::Read;
@@ -32,7 +31,7 @@ fn crossings_of(frame: &[u8]) -> Crossings {
 fn print_void(rt: &impl Print, station: VoidStation) -> io::Result<()> {
     let reason = station.reason;
     let j = little_endian::signed32_bits(station.j);
-    let number = reason_number(reason);
+    let number = u16::from(reason);
     print!(rt; " void {j:08x} {number}")
 }
 

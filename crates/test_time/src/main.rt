@@ -7,7 +7,6 @@ ghost use Rattle.std.specs.Prelude.{◌≡◌};
 ghost use Rattle.little_endian.specs.Bytes.{number_at};
 
 use flight_time::Place;
-use hypergeometric::reason_number;
 use std::io;
 use std::io::Read;
 
@@ -40,7 +39,7 @@ fn answer_one(rt: &impl Print, input: &mut impl Read) -> io::Result<bool> {
             println!(rt; "{time:016x}")?;
         }
         Place::Void(reason) => {
-            let number = reason_number(reason);
+            let number = u16::from(reason);
             println!(rt; "void {number}")?;
         }
     }

@@ -1,12 +1,10 @@
 -- Vectors, computed component by component in 01's order of operations (01, Triangle): q, differences, cross products
 -- and quotients. Definitions only.
-use Rattle.std.specs.Prelude.{Float}
+use Rattle.std.specs.Prelude.{Float, Option, Some, None}
 use Rattle.std.specs.Float.{nan}
 use Rattle.std.specs.Float.Ieee.{neg}
 use Rattle.float64.specs.Notation.{◌⊕◌, ◌⊖◌, ◌⊗◌, ◌⊘◌}
 use Rattle.float64.specs.Root.{root_of}
-use Rattle.float64.specs.declared.Root.{Root}
-use Rattle.float64.specs.declared.Root.TheVariants.{Value, Refused}
 use Rattle.float64.specs.declared.Vector.{Vector}
 
 -- q of a vector: the square of its length.
@@ -34,9 +32,9 @@ unfoldable pub opposite : Vector → Vector
 opposite v = record { x = neg v.x; y = neg v.y; z = neg v.z }
 
 -- The value of a root, for steps that need a number. A refused root becomes a NaN.
-unfoldable pub or_nan : Root → Float
-or_nan (Value r) = r
-or_nan Refused = nan
+unfoldable pub or_nan : Option Float → Float
+or_nan (Some r) = r
+or_nan None = nan
 
 -- The root of a number, or a NaN if the root is refused.
 unfoldable pub root_or_nan : Float → Float

@@ -5,9 +5,10 @@
 ghost use Rattle.std.specs.Prelude.{◌≡◌};
 ghost use Rattle.vectors.specs.Vectors.{norm_squared, difference, cross, divided_by, opposite, or_nan, root_or_nan};
 
-use float64::{Root, Vector, square_root};
+use float64::{Vector, square_root};
 
 // Returns the square of a vector's length.
+#[tactic(auto, unfolding(crate::specs::Vectors::norm_squared))]
 pub fn norm_squared(v: Vector) -> f64
     ensures { result ≡ norm_squared v }
 {
@@ -15,6 +16,7 @@ pub fn norm_squared(v: Vector) -> f64
 }
 
 // Returns a - b, the vector from b to a.
+#[tactic(auto, unfolding(crate::specs::Vectors::difference))]
 pub fn difference(a: Vector, b: Vector) -> Vector
     ensures { result ≡ difference a b }
 {
@@ -26,6 +28,7 @@ pub fn difference(a: Vector, b: Vector) -> Vector
 }
 
 // Returns the cross product a × b.
+#[tactic(auto, unfolding(crate::specs::Vectors::cross))]
 pub fn cross(a: Vector, b: Vector) -> Vector
     ensures { result ≡ cross a b }
 {
@@ -37,6 +40,7 @@ pub fn cross(a: Vector, b: Vector) -> Vector
 }
 
 // Divides a vector by a number.
+#[tactic(auto, unfolding(crate::specs::Vectors::divided_by))]
 pub fn divided_by(v: Vector, d: f64) -> Vector
     ensures { result ≡ divided_by v d }
 {
@@ -48,6 +52,7 @@ pub fn divided_by(v: Vector, d: f64) -> Vector
 }
 
 // Returns the vector with every component negated.
+#[tactic(auto, unfolding(crate::specs::Vectors::opposite))]
 pub fn opposite(v: Vector) -> Vector
     ensures { result ≡ opposite v }
 {
@@ -58,18 +63,16 @@ pub fn opposite(v: Vector) -> Vector
     }
 }
 
-// Returns the value of a root, or a NaN if the root was refused. With this, any two positions have
+// Returns the value of a root, or a NaN if the root is refused. With this, any two positions have
 // a shape (see `geometry::shape_of`).
-pub fn or_nan(root: Root) -> f64
+pub fn or_nan(root: Option<f64>) -> f64
     ensures { result ≡ or_nan root }
 {
-    match root {
-        Root::Value(number) => number,
-        Root::Refused => 0.0 / 0.0,
-    }
+    root.unwrap_or(0.0 / 0.0)
 }
 
 // Returns the root of x, or a NaN if the root is refused.
+#[tactic(auto, unfolding(crate::specs::Vectors::root_or_nan))]
 pub fn root_or_nan(x: f64) -> f64
     ensures { result ≡ root_or_nan x }
 {

@@ -7,12 +7,14 @@ use float64::Vector;
 
 // Reports whether |upper - wanted| is below |lower - wanted|, each an f64 difference without its sign. A tie and a NaN give
 // false.
+#[tactic(auto, unfolding(crate::specs::Chosen::upper_chosen))]
 pub fn upper_chosen(lower: f64, upper: f64, wanted: f64) -> bool
     ensures { result ≡ upper_chosen lower upper wanted }
 {
     float64::magnitude(upper - wanted) < float64::magnitude(lower - wanted)
 }
 
+#[tactic(auto, unfolding(crate::specs::Chosen::vector_finite))]
 fn is_finite(v: Vector) -> bool
     ensures { result ≡ vector_finite v }
 {
@@ -20,6 +22,7 @@ fn is_finite(v: Vector) -> bool
 }
 
 // Reports whether all components of both velocities are finite.
+#[tactic(auto, unfolding(crate::specs::Chosen::velocities_finite))]
 pub fn are_finite(w: Velocities) -> bool
     ensures { result ≡ velocities_finite w }
 {

@@ -28,6 +28,7 @@ pub struct Velocities {
 }
 
 // Returns the terminal velocities, at departure and at arrival, for place k of a triangle.
+#[tactic(auto, unfolding(crate::specs::Velocities::velocities_of))]
 pub fn velocities_at(
     mu: f64,
     triangle: Triangle,
@@ -56,18 +57,21 @@ pub fn velocities_at(
     Velocities { v1, v2 }
 }
 
+#[tactic(auto, unfolding(crate::specs::Velocities::gamma_of))]
 fn gamma(mu: f64, semiperimeter: f64) -> f64
     ensures { result ≡ gamma_of mu semiperimeter }
 {
     geometry::root_or_nan((mu * semiperimeter) / 2.0)
 }
 
+#[tactic(auto, unfolding(crate::specs::Velocities::y_or_nan))]
 fn y_or_nan(l: f64, x: f64) -> f64
     ensures { result ≡ y_or_nan l x }
 {
     geometry::or_nan(hypergeometric::y_at(l, flight_time::u_at(x)))
 }
 
+#[tactic(auto, unfolding(crate::specs::Velocities::speeds_of))]
 fn speeds_at(gamma: f64, t: Triangle, radius1: f64, radius2: f64, x: f64, y: f64) -> Speeds
     ensures { result ≡ speeds_of gamma t radius1 radius2 x y }
 {
@@ -84,6 +88,7 @@ fn speeds_at(gamma: f64, t: Triangle, radius1: f64, radius2: f64, x: f64, y: f64
 
 // Returns the velocity with the given radial speed along the unit vector and the given transverse
 // speed across it, in the plane of the given normal.
+#[tactic(auto, unfolding(crate::specs::Velocities::velocity_of))]
 fn velocity_along(radial: f64, transverse: f64, normal: Vector, unit: Vector) -> Vector
     ensures { result ≡ velocity_of radial transverse normal unit }
 {

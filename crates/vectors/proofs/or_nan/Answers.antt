@@ -1,12 +1,15 @@
--- `vectors::or_nan` meets its contract. The two returns are the two cases of the root: a value, or refused.
-use lib.Ieee.{div, of_bits}
+-- `vectors::or_nan` meets its contract. The quotient 0 / 0 is the NaN that the definition names, and the two cases of the root agree.
+use Rattle.std.specs.Prelude.{Option, Some, None, unwrap_or}
+use mathlib.Core.Path.{◌≡◌, refl, ◌∙◌}
+use lib.Ieee.{Float, nan, div, of_bits}
 use Rattle.vectors.specs.Vectors.{or_nan}
 use Rattle.vectors.proofs.or_nan.Goals as goal
 
-pub returns-in-Value : goal.returns-in-Value
+by_root : (root : Option Float) → unwrap_or root nan ≡ or_nan root
 unfolding or_nan
-returns-in-Value c = simp c.in-Value.is
+by_root (Some r) = refl
+by_root None = refl
 
-pub returns-in-Refused : goal.returns-in-Refused
-unfolding or_nan div of_bits
-returns-in-Refused c = simp c.in-Refused.is
+pub returns : goal.returns
+unfolding div of_bits
+returns c = c.unwrap_or.ensures ∙ by_root _
