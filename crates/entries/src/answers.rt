@@ -22,10 +22,8 @@ pub fn write_answer(
         return;
     }
     records::write_head(out, records::answer_head(job, revision, few));
-    let mut i: u16 = 0;
-    while i < few {
+    for i in 0..few {
         let at = records::answer_size(i);
         records::write_entry(&mut out[at..], entries[i as usize]);
-        i += 1;
     }
 }

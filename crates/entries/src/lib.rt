@@ -17,6 +17,7 @@ use records::{Entry, MOST_ENTRIES};
 use velocity::Velocities;
 
 // Returns the time at place k of a problem, or void if it has none.
+#[tactic(auto, unfolding(crate::specs::Entries::place_of))]
 pub fn place_at(p: Problem, k: i64) -> Place
     ensures { result ≡ place_of p k }
 {
@@ -38,12 +39,14 @@ fn upper_of(lower: Place, upper: Place, wanted: f64) -> bool
     velocity::upper_chosen(t0, t1, wanted)
 }
 
+#[tactic(auto, unfolding(crate::specs::Entries::takes_upper))]
 fn takes_upper(p: Problem, b: Bracket) -> bool
     ensures { result ≡ takes_upper p b }
 {
     upper_of(place_at(p, b.lower), place_at(p, b.upper), p.wanted)
 }
 
+#[tactic(auto, unfolding(crate::specs::Entries::velocities_at))]
 fn velocities_at(p: Problem, k: i64) -> Velocities
     ensures { result ≡ velocities_at p k }
 {
@@ -68,9 +71,10 @@ fn velocities_at_end(p: Problem, b: Bracket, upper: bool) -> Velocities
 fn end_number(upper: bool) -> u32
     ensures { result ≡ end_number upper }
 {
-    if upper { 1 } else { 0 }
+    u32::from(upper)
 }
 
+#[tactic(auto, unfolding(crate::specs::Entries::entry_for, crate::specs::Entries::velocities_for))]
 fn entry_for(p: Problem, b: Bracket) -> Entry
     ensures { result ≡ entry_for p b }
 {
@@ -92,11 +96,7 @@ pub(crate) fn cut_count(count: usize) -> u16
     ensures most { result ≤ most_entries }
     ensures cut { result ≡ min count most_entries }
 {
-    if count < MOST_ENTRIES {
-        count as u16
-    } else {
-        MOST_ENTRIES as u16
-    }
+    count.min(MOST_ENTRIES) as u16
 }
 
 // Returns the entries of the first `count` brackets, or of all brackets if `count` is larger than
@@ -119,14 +119,13 @@ pub fn entries_of(p: Problem, list: [Bracket; MOST_ENTRIES], count: usize) -> [E
         v2: none,
     };
     let mut entries = [unused; MOST_ENTRIES];
-    let mut i: usize = 0;
-    while i < few {
+    for i in 0..few {
         entries[i] = entry_for(p, list[i]);
-        i += 1;
     }
     entries
 }
 
+#[tactic(auto, unfolding(velocity::specs::Chosen::velocities_finite))]
 fn is_finite(e: Entry) -> bool
     ensures { result ≡ entry_finite e }
 {
@@ -141,11 +140,5 @@ pub fn all_finite(entries: [Entry; MOST_ENTRIES], count: usize) -> bool
     ensures { result ≡ every entry_finite (take count entries) }
 {
     let few = cut_count(count) as usize;
-    let mut finite = true;
-    let mut i: usize = 0;
-    while i < few {
-        finite = finite & is_finite(entries[i]);
-        i += 1;
-    }
-    finite
+    entries[..few].iter().all(|e| is_finite(*e))
 }

@@ -35,9 +35,6 @@ offset_bounds-entries-i c = omega (arith, in_list (goal.at.offset_bounds-entries
 pub bounds-entries-i : goal.bounds-entries-i
 bounds-entries-i c = in_list (goal.at.bounds-entries-i c).In-loop-i
 
-pub overflow_add-i : goal.overflow_add-i
-overflow_add-i c = omega (arith, in_list (goal.at.overflow_add-i c).In-loop-i)
-
 pub loop-i-smaller : goal.loop-i-smaller
 loop-i-smaller c = omega (arith, c.loop-i-test.true)
 
