@@ -4,14 +4,14 @@
 
 ghost use Rattle.std.specs.Prelude.{◌≡◌};
 ghost use Rattle.orbit_message.specs.Writing.{write_of};
-ghost use Rattle.c_message.specs.Numbers.{write_number, vector_of_bits, sign_number, state_words, stored_of, read_into};
+ghost use Rattle.c_message.specs.Numbers.{write_number, vector_of_bits, state_words, stored_of, read_into};
 
 use float64::{Vector, from_bits};
-use little_endian::{PLACES, put_numbers};
+use little_endian::put_numbers;
 use orbit_message::{ReadResult, State, WriteResult};
 
 // The widths of the eighteen numbers: eight bytes each.
-const WIDTHS: [usize; PLACES] = [8; PLACES];
+const WIDTHS: [usize; 18] = [8; 18];
 
 // Writes a message as `write` does, with the position r1 given by the bits of its components. Returns the length of the message, or the
 // number of the refusal: 1, 5, 6, 7 or 8 for B1, B5, B6, B7 or B8. Every message has at least 248 and at most 762 bytes, so the two cannot
@@ -42,15 +42,8 @@ pub extern "C" fn lambert_opm_write(
     }
 }
 
-// Returns 1 for true and 0 for false.
-fn flag(b: bool) -> u64
-    ensures { result ≡ sign_number b }
-{
-    if b { 1 } else { 0 }
-}
-
 // Returns the sign, the whole part and the billionths of each number of a state.
-fn numbers_of(s: State) -> [u64; PLACES]
+fn numbers_of(s: State) -> [u64; 18]
     ensures { result ≡ state_words s }
 {
     let x = s.position.x;
@@ -60,22 +53,22 @@ fn numbers_of(s: State) -> [u64; PLACES]
     let v = s.velocity.y;
     let w = s.velocity.z;
     [
-        flag(x.negative),
+        u64::from(x.negative),
         x.whole,
         x.billionths,
-        flag(y.negative),
+        u64::from(y.negative),
         y.whole,
         y.billionths,
-        flag(z.negative),
+        u64::from(z.negative),
         z.whole,
         z.billionths,
-        flag(u.negative),
+        u64::from(u.negative),
         u.whole,
         u.billionths,
-        flag(v.negative),
+        u64::from(v.negative),
         v.whole,
         v.billionths,
-        flag(w.negative),
+        u64::from(w.negative),
         w.whole,
         w.billionths,
     ]

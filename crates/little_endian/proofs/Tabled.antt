@@ -1,18 +1,21 @@
 -- Numbers stored by a table of widths: how many bytes they take (`packed_length`), how many bytes are left from a field on
--- (`total_at`), and the effect of storing one more number (`put_more`).
+-- (`total_at`, `total_past`), the effect of storing one more number (`put_more`), and that none is left at the end of a table
+-- (`put_none`).
 use mathlib.Core.Path.{◌≡◌, refl, sym, ap, ◌∙◌}
 use mathlib.Core.List.{List, [], ◌∷◌, ◌++◌}
+use mathlib.Core.Logic.{◌⊎◌, inl, inr}
 use Prim.Native.Nat.{ℕ, zero, suc, ◌+◌, ◌≤◌, ◌<◌, ◌/◌}
 use native.Mathlib.Nat.{add-zero}
 use native.Mathlib.Omega.{arith}
 use lib.ListN.{length, get_or, set, drop, drop_of_length-le, length-append}
-use lib.Seq.{sets, drop-cons}
+use lib.Seq.{sets}
+use Rattle.std.proofs.lemmas.List.{drop_more}
 use Rattle.little_endian.specs.Bytes.{bytes_of}
 use Rattle.little_endian.specs.Tables.{total, packed}
 
-pub total_at : (ws : List ℕ) (i : ℕ) → i < length ws → total (drop i ws) ≡ get_or ws i 0 + total (drop (suc i) ws)
+pub total_at : (ws : List ℕ) (i : ℕ) → i < length ws → total (drop i ws) ≡ get_or ws i 0 + total (drop (i + 1) ws)
 unfolding total
-total_at ws i h = ap total (drop-cons ws i 0 h)
+total_at ws i h = ap total (drop_more ws i 0 h)
 
 -- Past the last field no bytes are left.
 pub total_past : (ws : List ℕ) (i : ℕ) → length ws ≤ i → total (drop i ws) ≡ 0
@@ -41,21 +44,23 @@ run (x ∷ xs) ys s at =
     let e : at + suc (length xs) ≡ suc at + length xs = omega arith in
     rw e (run xs ys (set s at x) (suc at))
 
-pub put_more : (ws vs s t : List ℕ) (i at : ℕ) {d : List ℕ} → i < length ws → i < length vs →
-    t ≡ sets s at (bytes_of (get_or ws i 0) (get_or vs i 0))
-    → sets s at (packed (drop i ws) (drop i vs)) ≡ d → sets t (at + get_or ws i 0) (packed (drop (suc i) ws) (drop (suc i) vs)) ≡ d
+pub put_more : (w v at : ℕ) (ws vs s t : List ℕ) → t ≡ sets s at (bytes_of w v) →
+    sets t (at + w) (packed ws vs) ≡ sets s at (packed (w ∷ ws) (v ∷ vs))
 unfolding packed
-put_more ws vs s t i at h k f e =
-    let w = get_or ws i 0 in
-    let b = bytes_of w (get_or vs i 0) in
-    let rest = packed (drop (suc i) ws) (drop (suc i) vs) in
+put_more w v at ws vs s t f =
+    let b = bytes_of w v in
+    let rest = packed ws vs in
     ap (λ (l : List ℕ). sets l (at + w) rest) f
-    ∙ ap (λ (n : ℕ). sets (sets s at b) (at + n) rest) (sym (bytes_length w (get_or vs i 0)))
+    ∙ ap (λ (n : ℕ). sets (sets s at b) (at + n) rest) (sym (bytes_length w v))
     ∙ run b rest s at
-    ∙ ap (λ (l : List ℕ). sets s at (packed l (get_or vs i 0 ∷ drop (suc i) vs))) (sym (drop-cons ws i 0 h))
-    ∙ ap (λ (l : List ℕ). sets s at (packed (drop i ws) l)) (sym (drop-cons vs i 0 k))
-    ∙ e
 
-pub put_all : (ws vs s : List ℕ) (i at : ℕ) {d : List ℕ} → length ws ≤ i → sets s at (packed (drop i ws) (drop i vs)) ≡ d → s ≡ d
+-- Nothing is left to store where the widths or the values end.
+no_value : (ws : List ℕ) → packed ws [] ≡ []
 unfolding packed
-put_all ws vs s i at h e = ap (λ (l : List ℕ). sets s at (packed l (drop i vs))) (sym (drop_of_length-le ws h)) ∙ e
+no_value [] = refl
+no_value (w ∷ ws) = refl
+
+pub put_none : (ws vs s : List ℕ) (at : ℕ) → (ws ≡ []) ⊎ (vs ≡ []) → sets s at (packed ws vs) ≡ s
+unfolding packed
+put_none ws vs s at (inl none) = rw none
+put_none ws vs s at (inr none) = rw (none, no_value ws)

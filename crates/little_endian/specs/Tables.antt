@@ -1,14 +1,6 @@
 -- Numbers stored one after another in bytes, by a table of their widths. Definitions only.
-use Rattle.std.specs.Prelude.{ℕ, ◌+◌, ◌-◌, List, [], ◌∷◌, ◌++◌, length, replicate}
+use Rattle.std.specs.Prelude.{ℕ, ◌+◌, List, [], ◌∷◌, ◌++◌}
 use Rattle.little_endian.specs.Bytes.{bytes_of, number_at}
-
--- The number of elements of a table.
-abbrev pub places : ℕ
-places = 18
-
--- The given numbers as the first elements of a table, with zeros after them.
-abbrev pub in_places : List ℕ → List ℕ
-in_places vs = vs ++ replicate (places - length vs) 0
 
 -- The number of bytes that fields of these widths take together.
 unfoldable pub total : List ℕ → ℕ

@@ -23,10 +23,8 @@ pub(crate) fn number_at(s: &[u8], at: usize, width: usize) -> u64
     ensures bound { result < 2 ^ (8 * width) }
 {
     let mut value = 0u64;
-    let mut left = width;
-    while 0 < left {
-        left -= 1;
-        value = value * 256 + byte_at(s, at, left);
+    for i in (0..width).rev() {
+        value = value * 256 + byte_at(s, at, i);
     }
     value
 }
@@ -43,11 +41,9 @@ pub(crate) fn put_number(out: &mut [u8], at: usize, width: usize, value: u64)
     requires { at + width ≤ length out.old }
     ensures { out.new ≡ sets out.old at (bytes_of width value) }
 {
-    let mut i = 0;
     let mut rest = value;
-    while i < width {
+    for i in 0..width {
         out[at + i] = (rest % 256) as u8;
-        rest = rest / 256;
-        i += 1;
+        rest /= 256;
     }
 }

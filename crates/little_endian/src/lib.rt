@@ -8,6 +8,6 @@ mod typed;
 mod words;
 
 pub use bytes::word_at;
-pub use tables::{PLACES, put_numbers};
+pub use tables::put_numbers;
 pub use typed::{u8_at, u16_at, u32_at};
 pub use words::{signed_bits, signed_of, signed32_bits, signed32_of};

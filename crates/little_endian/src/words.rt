@@ -6,34 +6,26 @@ ghost use Rattle.little_endian.specs.Bytes.{signed_bits, signed_of, signed32_bit
 pub fn signed_bits(k: i64) -> u64
     ensures { result ≡ signed_bits k }
 {
-    if k < 0 { !((!k) as u64) } else { k as u64 }
+    i64::cast_unsigned(k)
 }
 
 // Returns the signed number that has the two's complement b in 64 bits.
 pub fn signed_of(b: u64) -> i64
     ensures { result ≡ signed_of b }
 {
-    if b < 0x8000_0000_0000_0000 {
-        b as i64
-    } else {
-        !((!b) as i64)
-    }
+    u64::cast_signed(b)
 }
 
 // Returns the two's complement of k as a word of 32 bits.
 pub fn signed32_bits(k: i32) -> u32
     ensures { result ≡ signed32_bits k }
 {
-    if k < 0 { !((!k) as u32) } else { k as u32 }
+    i32::cast_unsigned(k)
 }
 
 // Returns the signed number that has the two's complement b in 32 bits.
 pub fn signed32_of(b: u32) -> i32
     ensures { result ≡ signed32_of b }
 {
-    if b < 0x8000_0000 {
-        b as i32
-    } else {
-        !((!b) as i32)
-    }
+    u32::cast_signed(b)
 }

@@ -13,7 +13,7 @@ use borrow.Author.Tests.{le-leb, eq-eqb}
 use lib.ListN.{length, length-append}
 use Rattle.little_endian.specs.Bytes.{number_at}
 use Rattle.records.specs.Layout.{CHOSEN, entry_size, refusal_size, answer_size, most_entries, first_number, last_number}
-use Rattle.records.specs.Layout.{size_of, chosen_at}
+use Rattle.records.specs.Layout.{size_of}
 use Rattle.records.specs.Records.{head_bytes, answer_head_of, refusal_bytes, entry_bytes, entries_bytes, answer_bytes}
 use Rattle.records.specs.declared.Refusal.{Refusal}
 use Rattle.records.specs.declared.Entry.{Entry}
@@ -21,6 +21,7 @@ use Rattle.records.proofs.Sizes.{head_length, entry_length, refusal_length}
 use Rattle.records.proofs.Answers.{answer_length}
 use Rattle.records.proofs.SingleFields.{refusal_size_lem, refusal_kind_lem, refusal_number, answer_size_lem, answer_kind_lem}
 use Rattle.records.proofs.SingleFields.{answer_number, chosen_back}
+use Rattle.outcomes.proofs.Ends.{all_name}
 use Rattle.outcomes.specs.Outcomes.{is_sized, is_refusal, all_name_an_end, is_answer, is_outcome}
 
 sized : (s : List ℕ) (n : ℕ) → length s ≡ n → size_of s ≡ n → is_sized s n ≡ true
@@ -60,11 +61,6 @@ chosen_low before (e ∷ es) (suc i) ends h =
     let at : length before + entry_size * suc i + CHOSEN.offset ≡ length past + entry_size * i + CHOSEN.offset =
     omega (arith, length-append before (entry_bytes e), entry_length e) in
     rw (at, ← append_assoc before (entry_bytes e) (entries_bytes es)) (chosen_low past es i (λ d m. ends d (there m)) (omega arith))
-
-all_name : (n : ℕ) (s : List ℕ) → ((i : ℕ) → i < n → chosen_at i s ≤ 1) → all_name_an_end n s ≡ true
-unfolding all_name_an_end
-all_name zero s h = refl
-all_name (suc n) s h = rw (all_name n s (λ i l. h i (omega arith)), le-leb (chosen_at n s) 1 (h n (omega arith)))
 
 -- ---- an answer
 

@@ -45,11 +45,5 @@ pub fn is_sized(s: &[u8], n: usize) -> bool
 fn name_ends(s: &[u8], n: u16) -> bool
     ensures { result ≡ all_name_an_end n s.now }
 {
-    let mut all = true;
-    let mut i: u16 = 0;
-    while i < n {
-        all = all & (chosen_at(s, i) <= 1);
-        i += 1;
-    }
-    all
+    (0..n).all(|i| chosen_at(s, i) <= 1)
 }

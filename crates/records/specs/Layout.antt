@@ -197,11 +197,6 @@ last_number = 14
 abbrev pub value_of : Field → List ℕ → ℕ
 value_of f s = number_at f.width s f.offset
 
--- The widths of the fields, in their order.
-unfoldable pub widths_of : List Field → List ℕ
-widths_of [] = []
-widths_of (f ∷ fs) = f.width ∷ widths_of fs
-
 -- The bytes of a record whose fields have the given values. Values that have no field are left out.
 unfoldable pub encode : List Field → List ℕ → List ℕ
 encode [] vs = []

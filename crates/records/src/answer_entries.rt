@@ -1,15 +1,14 @@
 // An entry of an answer.
 ghost use Rattle.std.specs.Prelude.{◌≡◌};
 ghost use Rattle.little_endian.specs.Bytes.{has_room, written};
-ghost use Rattle.little_endian.specs.Tables.{in_places};
 ghost use Rattle.records.specs.Records.{entry_of, entry_numbers, entry_bytes};
 
 use crate::Entry;
 use crate::floats::vector_at;
 use float64::to_bits;
-use little_endian::{PLACES, put_numbers, signed_bits, signed_of, u32_at, word_at};
+use little_endian::{put_numbers, signed_bits, signed_of, u32_at, word_at};
 
-const WIDTHS: [usize; PLACES] = [8, 4, 4, 8, 8, 8, 8, 8, 8, 0, 0, 0, 0, 0, 0, 0, 0, 0];
+const WIDTHS: [usize; 9] = [8, 4, 4, 8, 8, 8, 8, 8, 8];
 
 // Returns the entry at the start of the bytes. A byte past the end counts as 0.
 pub fn read_entry(s: &[u8]) -> Entry
@@ -32,9 +31,9 @@ pub fn write_entry(out: &mut [u8], e: Entry) -> bool
     put_numbers(out, WIDTHS, numbers_of(e))
 }
 
-// Returns the values of the fields in the order of the table, with zeros after them.
-fn numbers_of(e: Entry) -> [u64; PLACES]
-    ensures { result ≡ in_places (entry_numbers e) }
+// Returns the values of the fields in the order of the table.
+fn numbers_of(e: Entry) -> [u64; 9]
+    ensures { result ≡ entry_numbers e }
 {
     [
         signed_bits(e.lower),
@@ -46,14 +45,5 @@ fn numbers_of(e: Entry) -> [u64; PLACES]
         to_bits(e.v2.x),
         to_bits(e.v2.y),
         to_bits(e.v2.z),
-        0,
-        0,
-        0,
-        0,
-        0,
-        0,
-        0,
-        0,
-        0,
     ]
 }

@@ -1,14 +1,13 @@
 // The head of an answer (kind 2) and of a refusal (kind 3).
 ghost use Rattle.std.specs.Prelude.{◌≡◌};
 ghost use Rattle.little_endian.specs.Bytes.{has_room, written};
-ghost use Rattle.little_endian.specs.Tables.{in_places};
 ghost use Rattle.records.specs.Layout.{answer_size};
 ghost use Rattle.records.specs.Records.{head_of, head_numbers, head_bytes, answer_head_of};
 
 use crate::{ANSWER_KIND, ENTRY_SIZE, HEAD_SIZE, Head, LENGTH_SIZE};
-use little_endian::{PLACES, put_numbers, u16_at, u32_at};
+use little_endian::{put_numbers, u16_at, u32_at};
 
-const WIDTHS: [usize; PLACES] = [4, 2, 4, 4, 2, 0, 0, 0, 0, 0, 0, 0, 0, 0, 0, 0, 0, 0];
+const WIDTHS: [usize; 5] = [4, 2, 4, 4, 2];
 
 // Returns the head at the start of the bytes. A byte past the end counts as 0.
 pub fn read_head(s: &[u8]) -> Head
@@ -31,9 +30,9 @@ pub fn write_head(out: &mut [u8], h: Head) -> bool
     put_numbers(out, WIDTHS, numbers_of(h))
 }
 
-// Returns the values of the fields in the order of the table, with zeros after them.
-fn numbers_of(h: Head) -> [u64; PLACES]
-    ensures { result ≡ in_places (head_numbers h) }
+// Returns the values of the fields in the order of the table.
+fn numbers_of(h: Head) -> [u64; 5]
+    ensures { result ≡ head_numbers h }
 {
     [
         h.length as u64,
@@ -41,19 +40,6 @@ fn numbers_of(h: Head) -> [u64; PLACES]
         h.job as u64,
         h.revision as u64,
         h.number as u64,
-        0,
-        0,
-        0,
-        0,
-        0,
-        0,
-        0,
-        0,
-        0,
-        0,
-        0,
-        0,
-        0,
     ]
 }
 

@@ -1,15 +1,14 @@
 // A question (kind 1).
 ghost use Rattle.std.specs.Prelude.{◌≡◌};
 ghost use Rattle.little_endian.specs.Bytes.{has_room, written};
-ghost use Rattle.little_endian.specs.Tables.{in_places};
 ghost use Rattle.records.specs.Records.{question_of, question_numbers, question_bytes};
 
 use crate::Question;
 use crate::floats::{float_at, vector_at};
 use float64::to_bits;
-use little_endian::{PLACES, put_numbers, u8_at, u16_at, u32_at};
+use little_endian::{put_numbers, u8_at, u16_at, u32_at};
 
-const WIDTHS: [usize; PLACES] = [4, 2, 4, 4, 2, 1, 1, 8, 8, 8, 8, 8, 8, 8, 8, 0, 0, 0];
+const WIDTHS: [usize; 15] = [4, 2, 4, 4, 2, 1, 1, 8, 8, 8, 8, 8, 8, 8, 8];
 
 // Returns the question at the start of the bytes. A byte past the end counts as 0.
 pub fn read_question(s: &[u8]) -> Question
@@ -38,9 +37,9 @@ pub fn write_question(out: &mut [u8], q: Question) -> bool
     put_numbers(out, WIDTHS, numbers_of(q))
 }
 
-// Returns the values of the fields in the order of the table, with zeros after them.
-fn numbers_of(q: Question) -> [u64; PLACES]
-    ensures { result ≡ in_places (question_numbers q) }
+// Returns the values of the fields in the order of the table.
+fn numbers_of(q: Question) -> [u64; 15]
+    ensures { result ≡ question_numbers q }
 {
     [
         q.length as u64,
@@ -58,8 +57,5 @@ fn numbers_of(q: Question) -> [u64; PLACES]
         to_bits(q.r2.z),
         to_bits(q.mu),
         to_bits(q.time),
-        0,
-        0,
-        0,
     ]
 }

@@ -1,16 +1,15 @@
 // A refusal (kind 3). With number 12 it also names the first void station and the reason.
 ghost use Rattle.std.specs.Prelude.{◌≡◌};
 ghost use Rattle.little_endian.specs.Bytes.{has_room, written};
-ghost use Rattle.little_endian.specs.Tables.{in_places};
-ghost use Rattle.records.specs.Layout.{refusal_fields, refusal_size, widths_of};
-ghost use Rattle.records.specs.Records.{refusal_of, refusal_with, refusal_numbers, refusal_bytes};
+ghost use Rattle.records.specs.Layout.{refusal_size};
+ghost use Rattle.records.specs.Records.{refusal_of, refusal_with, refusal_numbers, refusal_bytes, refusal_head_of};
 
-use crate::{HEAD_SIZE, LENGTH_SIZE, REFUSAL_KIND, Refusal, VOID_NUMBER, VOID_REFUSAL_SIZE};
-use little_endian::{PLACES, put_numbers, signed32_bits, signed32_of, u16_at, u32_at};
+use crate::heads::write_head;
+use crate::{HEAD_SIZE, Head, LENGTH_SIZE, REFUSAL_KIND, Refusal, VOID_NUMBER, VOID_REFUSAL_SIZE};
+use little_endian::{put_numbers, signed32_bits, signed32_of, u16_at, u32_at};
 
-const WIDTHS: [usize; PLACES] = [4, 2, 4, 4, 2, 0, 0, 0, 0, 0, 0, 0, 0, 0, 0, 0, 0, 0];
-
-const VOID_WIDTHS: [usize; PLACES] = [4, 2, 4, 4, 2, 4, 2, 0, 0, 0, 0, 0, 0, 0, 0, 0, 0, 0];
+// The widths of the fields of a refusal with number 12. Any other refusal is a head alone.
+const VOID_WIDTHS: [usize; 7] = [4, 2, 4, 4, 2, 4, 2];
 
 // Returns the size of a refusal with the given number.
 pub fn refusal_size(number: u16) -> usize
@@ -63,43 +62,38 @@ pub fn write_refusal(out: &mut [u8], r: Refusal) -> bool
     ensures room { result ≡ has_room out.old (refusal_bytes r) }
     ensures bytes { out.new ≡ written out.old (refusal_bytes r) }
 {
-    put_numbers(out, widths_of(r.number), numbers_of(r))
-}
-
-// Returns the widths of the fields in the order of the table, with zeros after them.
-fn widths_of(number: u16) -> [usize; PLACES]
-    ensures { result ≡ in_places (widths_of (refusal_fields number)) }
-{
-    if number == VOID_NUMBER {
-        VOID_WIDTHS
+    if r.number == VOID_NUMBER {
+        put_numbers(out, VOID_WIDTHS, numbers_of(r))
     } else {
-        WIDTHS
+        write_head(out, head_of(r))
     }
 }
 
-// Returns the values of the fields in the order of the table, with zeros after them. The station and the reason are always among
-// them, and `widths_of` says whether they are written.
-fn numbers_of(r: Refusal) -> [u64; PLACES]
-    ensures { result ≡ in_places (refusal_numbers r) }
+// Returns the head with which the bytes of a refusal begin.
+fn head_of(r: Refusal) -> Head
+    ensures { result ≡ refusal_head_of r }
 {
+    Head {
+        length: (refusal_size(r.number) - LENGTH_SIZE) as u32,
+        kind: REFUSAL_KIND,
+        job: r.job,
+        revision: r.revision,
+        number: r.number,
+    }
+}
+
+// Returns the values of the fields of a refusal with number 12, in the order of the table.
+fn numbers_of(r: Refusal) -> [u64; 7]
+    ensures { result ≡ refusal_numbers r }
+{
+    let head = head_of(r);
     [
-        (refusal_size(r.number) - LENGTH_SIZE) as u64,
-        REFUSAL_KIND as u64,
-        r.job as u64,
-        r.revision as u64,
-        r.number as u64,
+        head.length as u64,
+        head.kind as u64,
+        head.job as u64,
+        head.revision as u64,
+        head.number as u64,
         signed32_bits(r.station) as u64,
         r.reason as u64,
-        0,
-        0,
-        0,
-        0,
-        0,
-        0,
-        0,
-        0,
-        0,
-        0,
-        0,
     ]
 }

@@ -1,14 +1,24 @@
 -- `numbers_of` meets its contract: three numbers for each decimal, in the order of the definition.
-use Rattle.c_message.specs.Numbers.{state_words}
+use mathlib.Core.Bool.{Bool, true, false}
+use mathlib.Core.Path.{◌≡◌, refl}
+use mir.Val.{bool_byte}
+use Rattle.c_message.specs.Numbers.{sign_number, state_words}
 use Rattle.c_message.proofs.numbers_of.Goals as goal
+
+-- The number of a bool is 1 for true and 0 for false.
+sign_is : (b : Bool) → bool_byte b ≡ sign_number b
+sign_is true = refl
+sign_is false = refl
 
 pub returns : goal.returns
 unfolding state_words
 returns c =
-    let x = c.flag.ensures in
-    let y = c.flag-2.ensures in
-    let z = c.flag-3.ensures in
-    let u = c.flag-4.ensures in
-    let v = c.flag-5.ensures in
-    let w = c.flag-6.ensures in
-    rw (x, y, z, u, v, w)
+    simp (
+      c.from-6.ensures,
+      c.from-5.ensures,
+      c.from-4.ensures,
+      c.from-3.ensures,
+      c.from-2.ensures,
+      c.from.ensures,
+      sign_is,
+    )

@@ -1,20 +1,19 @@
--- `name_ends` meets its contract. The loop invariant: `all` is true exactly if the chosen ends of the first i entries
--- are all 0 or 1. The measure is the number of entries left.
-use mathlib.Core.Path.{◌≡◌, refl}
-use native.Mathlib.Numerals.{add-one}
+-- `name_ends` meets its contract: the closure tests the chosen end of the entry of each index below n.
+use Prim.Native.Nat.{◌<◌, ◌≤◌}
+use mathlib.Core.Path.{refl}
 use native.Mathlib.Omega.{arith}
-use Rattle.outcomes.specs.Outcomes.{all_name_an_end}
+use borrow.Author.Rules.{rules}
+use Rattle.std.proofs.Common.{tests}
+use Rattle.std.proofs.lemmas.Iterator.{cases_from_all, YieldsList-from_range}
+use Rattle.records.specs.Layout.{chosen_at}
+use Rattle.outcomes.proofs.Ends.{searched}
 use Rattle.outcomes.proofs.name_ends.Goals as goal
-
-pub loop-i-init : goal.loop-i-init
-unfolding all_name_an_end
-loop-i-init c = (omega arith, refl)
-
-pub loop-i-preserved : goal.loop-i-preserved
-unfolding all_name_an_end
-loop-i-preserved c = (omega arith, rw (add-one, c.chosen_at.ensures, c.loop-i.invariant.1))
 
 pub returns : goal.returns
 returns c =
-    let e : c.loop-i.i ≡ c.args.n = omega arith in
-    rw e at c.loop-i.invariant.1
+    let n = c.args.n in
+    let s = c.args.s.now in
+    let below = YieldsList-from_range 0 n n refl (omega arith) in
+    let found = cases_from_all _ _ _ (λ i. chosen_at i s ≤ 1) (λ i. 1 < chosen_at i s) c.all.ensures.ran below
+    (λ x q k. search (rules, tests)) (λ x q k. search (rules, tests)) in
+    searched n s c.all.result found

@@ -1,5 +1,5 @@
 -- `bytes::put_number` meets its contract. The loop invariant is that storing the rest of the number from the current offset
--- on completes what the function has to store. The measure is the number of bytes left.
+-- on completes what the function has to store.
 use Prim.Native.Nat.{suc, ◌+◌, ◌-◌}
 use mathlib.Core.Path.{◌≡◌, refl}
 use native.Mathlib.Omega.{arith}
@@ -9,7 +9,7 @@ use Rattle.little_endian.specs.Bytes.{bytes_of}
 use Rattle.little_endian.proofs.bytes.put_number.Goals as goal
 
 pub loop-i-init : goal.loop-i-init
-loop-i-init c = (omega arith, refl, simp (add-zero, sub-zero))
+loop-i-init c = (refl, simp (add-zero, sub-zero))
 
 pub loop-i-preserved : goal.loop-i-preserved
 unfolding bytes_of
@@ -19,13 +19,13 @@ loop-i-preserved c =
     let at = c.args.at in
     let s : w - i ≡ suc (w - (i + 1)) = omega arith in
     let e : at + (i + 1) ≡ suc (at + i) = omega arith in
-    (omega arith, simp length-set c.loop-i.invariant.1, rw e (rw s at c.loop-i.invariant.2))
+    (simp length-set c.loop-i.invariant.0, rw e (rw s at c.loop-i.invariant.1))
 
 pub shape_of-out : goal.shape_of-out
-shape_of-out c = c.loop-i.invariant.1
+shape_of-out c = c.loop-i.invariant.0
 
 pub returns : goal.returns
 unfolding bytes_of
 returns c =
     let s : c.args.width - c.loop-i.i ≡ 0 = omega arith in
-    rw s at c.loop-i.invariant.2
+    rw s at c.loop-i.invariant.1

@@ -10,12 +10,12 @@ use Rattle.little_endian.proofs.Writing.{no_room, stored}
 use Rattle.little_endian.proofs.tables.put_numbers.Goals as goal
 
 pub store-requires : goal.store-requires
-store-requires c =
+store-requires g c =
     let a = c.args in
     leb-true (total a.widths) (length a.out.now) (sym c.fits.ensures ∙ c.if-fits.true)
 
 pub returns-then-fits : goal.returns-then-fits
-returns-then-fits c =
+returns-then-fits g c =
     let a = c.args in
     let long : length a.widths ≤ length a.values = search (rules, c.well_formed) in
     let both = stored a.out.now (packed a.widths a.values) (total a.widths) (packed_length a.widths a.values long) _
@@ -24,7 +24,7 @@ returns-then-fits c =
     record { room = both.0; bytes = both.1 }
 
 pub returns : goal.returns
-returns c =
+returns g c =
     let a = c.args in
     let long : length a.widths ≤ length a.values = search (rules, c.well_formed) in
     let both = no_room a.out.now (packed a.widths a.values) (total a.widths) (packed_length a.widths a.values long)

@@ -1,14 +1,13 @@
--- `words::signed32_of` meets its contract: a word below 2 ^ 31 is its own number, and any
--- other word is inverted before and after the cast.
+-- `words::signed32_of` meets its contract: the signed number of the definition is that of `cast_signed`.
+use mathlib.Core.Path.{◌∙◌}
 use borrow.Author.Rules.{rules}
-use mathlib.Core.Path.{ap, ◌∙◌}
+use mir.Facts.{to_z-of_z}
 use mir.Syntax.{w32}
-use mir.Val.{to_z}
-use Rattle.little_endian.proofs.Twos.{signed_is, inverted_twice}
+use mir.Val.{SFits}
+use Rattle.little_endian.proofs.Twos.{signed_is}
 use Rattle.little_endian.proofs.words.signed32_of.Goals as goal
 
-pub returns-then-b-lt2147483648 : goal.returns-then-b-lt2147483648
-returns-then-b-lt2147483648 c = signed_is w32 c.args.b
-
-pub returns-else-b-lt2147483648 : goal.returns-else-b-lt2147483648
-returns-else-b-lt2147483648 c = ap (to_z w32) (inverted_twice w32 c.args.b (search rules)) ∙ signed_is w32 c.args.b
+pub returns : goal.returns
+returns c =
+    let fits : SFits w32 c.cast_signed.result = search rules in
+    to_z-of_z fits ∙ c.cast_signed.ensures ∙ signed_is w32 c.args.b

@@ -1,14 +1,13 @@
--- `words::signed_of` meets its contract: a word below 2 ^ 63 is its own number, and any
--- other word is inverted before and after the cast.
+-- `words::signed_of` meets its contract: the signed number of the definition is that of `cast_signed`.
+use mathlib.Core.Path.{◌∙◌}
 use borrow.Author.Rules.{rules}
-use mathlib.Core.Path.{ap, ◌∙◌}
+use mir.Facts.{to_z-of_z}
 use mir.Syntax.{w64}
-use mir.Val.{to_z}
-use Rattle.little_endian.proofs.Twos.{signed_is, inverted_twice}
+use mir.Val.{SFits}
+use Rattle.little_endian.proofs.Twos.{signed_is}
 use Rattle.little_endian.proofs.words.signed_of.Goals as goal
 
-pub returns-then-b-lt9223372036854775808 : goal.returns-then-b-lt9223372036854775808
-returns-then-b-lt9223372036854775808 c = signed_is w64 c.args.b
-
-pub returns-else-b-lt9223372036854775808 : goal.returns-else-b-lt9223372036854775808
-returns-else-b-lt9223372036854775808 c = ap (to_z w64) (inverted_twice w64 c.args.b (search rules)) ∙ signed_is w64 c.args.b
+pub returns : goal.returns
+returns c =
+    let fits : SFits w64 c.cast_signed.result = search rules in
+    to_z-of_z fits ∙ c.cast_signed.ensures ∙ signed_is w64 c.args.b

@@ -7,7 +7,7 @@ use Rattle.records.proofs.answer_entries.numbers_of.Goals as goal
 
 pub returns : goal.returns
 returns c =
-    let f : SFits w64 c.args.e.lower = search (rules, c.struct_told-1.given) in
+    let f : SFits w64 c.args.e.lower = search rules in
     simp (
       c.to_bits-6.ensures,
       c.to_bits-5.ensures,
