@@ -4,7 +4,6 @@ use mathlib.Core.Path.{◌≡◌, refl}
 use mathlib.Core.List.{List, ◌++◌}
 use Prim.Native.Nat.{ℕ}
 use Rattle.link_reader.specs.declared.Reader.{Reader}
-use Rattle.link_reader.proofs.Apart.{apart}
 use Rattle.link_reader.proofs.Verdicts.{judged_by}
 use Rattle.cutting_laws.specs.Feeding.{Given, feed_all, concatenation, StreamHolds, unfinished}
 use Rattle.cutting_laws.specs.Feeding.{refused_length, next_question, Reached}
@@ -13,13 +12,13 @@ use Rattle.cutting_laws.proofs.Parts.{Ends, kept, refused_rest, ends_hold, reach
 
 pub holds_one : {s : List ℕ} {gs hs : List Given} {r t : Reader} → StreamHolds s gs r → StreamHolds s hs t → (gs ≡ hs) × (r ≡ t)
 holds_one (unfinished d) (unfinished e) = (refl, refl)
-holds_one (unfinished d) (refused_length e) = apart (cc (judged_by d, judged_by e))
-holds_one (unfinished d) (next_question e k) = apart (cc (judged_by d, judged_by e))
-holds_one (refused_length d) (unfinished e) = apart (cc (judged_by d, judged_by e))
+holds_one (unfinished d) (refused_length e) = absurd (cc (judged_by d, judged_by e))
+holds_one (unfinished d) (next_question e k) = absurd (cc (judged_by d, judged_by e))
+holds_one (refused_length d) (unfinished e) = absurd (cc (judged_by d, judged_by e))
 holds_one (refused_length d) (refused_length e) = (refl, refl)
-holds_one (refused_length d) (next_question e k) = apart (cc (judged_by d, judged_by e))
-holds_one (next_question d h) (unfinished e) = apart (cc (judged_by d, judged_by e))
-holds_one (next_question d h) (refused_length e) = apart (cc (judged_by d, judged_by e))
+holds_one (refused_length d) (next_question e k) = absurd (cc (judged_by d, judged_by e))
+holds_one (next_question d h) (unfinished e) = absurd (cc (judged_by d, judged_by e))
+holds_one (next_question d h) (refused_length e) = absurd (cc (judged_by d, judged_by e))
 holds_one (next_question {stream} {size = size} d h) (next_question {size = other} e k) =
     let same : other ≡ size = cc (judged_by d, judged_by e) in
     let rest = holds_one h (rw same at k) in

@@ -11,10 +11,10 @@ use Prim.Native.Nat.{ℕ}
 use lib.ListN.{take, take-append-drop}
 use Rattle.link_reader.specs.declared.Reader.{Reader}
 use Rattle.link_reader.specs.declared.Step.{Step}
-use Rattle.link_reader.specs.declared.Came.TheVariants.{Nothing, BadLength}
+use Rattle.std.specs.Prelude.{None, Ok, Err}
+use Rattle.link_reader.specs.declared.Refusal.TheVariants.{BadLength}
 use Rattle.link_reader.specs.Reading.{refusal_of, kept_of, as_new, after_refusal, read_of}
 use Rattle.link_reader.specs.Verdicts.{Verdict}
-use Rattle.link_reader.proofs.Apart.{apart}
 use Rattle.cutting_laws.specs.Feeding.{Given, question, refusal, concatenation, keeping, StreamHolds, unfinished}
 use Rattle.cutting_laws.specs.Feeding.{refused_length, next_question, IsQuestion, AllQuestions, Reached, new, called}
 use Rattle.cutting_laws.proofs.More.{whole_is}
@@ -24,21 +24,21 @@ use Rattle.cutting_laws.proofs.Refusals.{needs_reset_lem}
 
 -- What a rest gives out, and the state after it.
 pub data Ends (rest : List ℕ) : List Given → Reader → Type 0 where
-  kept : Verdict rest Nothing → Ends rest [] (keeping rest)
-  refused_rest : Verdict rest BadLength → Ends rest (map refusal (refusal_of BadLength)) after_refusal
+  kept : Verdict rest (Ok None) → Ends rest [] (keeping rest)
+  refused_rest : Verdict rest (Err BadLength) → Ends rest (map refusal (refusal_of (Err BadLength))) after_refusal
 
 pub ends_hold : {rest : List ℕ} {last : List Given} {r : Reader} → Ends rest last r → StreamHolds rest last r
 ends_hold (kept j) = unfinished j
 ends_hold (refused_rest j) = refused_length j
 
 pub kept_ends : {rest : List ℕ} {last : List Given} {r : Reader} → Ends rest last r → r.refused ≡ false
-    → (last ≡ []) × (kept_of r ≡ rest) × Verdict rest Nothing
+    → (last ≡ []) × (kept_of r ≡ rest) × Verdict rest (Ok None)
 kept_ends (kept j) e = (refl, kept_is j, j)
-kept_ends (refused_rest j) e = apart (cc)
+kept_ends (refused_rest j) e = absurd cc
 
 pub refused_ends : {rest : List ℕ} {last : List Given} {r : Reader} → Ends rest last r → r.refused ≡ true
-    → (last ≡ map refusal (refusal_of BadLength)) × Verdict rest BadLength × (r ≡ after_refusal)
-refused_ends (kept j) e = apart (cc)
+    → (last ≡ map refusal (refusal_of (Err BadLength))) × Verdict rest (Err BadLength) × (r ≡ after_refusal)
+refused_ends (kept j) e = absurd cc
 refused_ends (refused_rest j) e = (refl, j, refl)
 
 -- ---- The parts of a stream

@@ -10,7 +10,7 @@ use lib.Dec.{eqb, eqb-suc-zero}
 use lib.ListN.{length, take, drop, length-append, length-drop}
 use lib.Seq.{drop-length, drop-append-add}
 use Rattle.link_reader.specs.declared.Step.{Step}
-use Rattle.link_reader.specs.declared.Came.TheVariants.{Question, Nothing}
+use Rattle.std.specs.Prelude.{Some, None, Ok}
 use Rattle.link_reader.specs.Reading.{as_new}
 use Rattle.cutting_laws.specs.Feeding.{question, given_by, Fed, fed, prepend, feed_for, keeping, StreamHolds}
 use Rattle.cutting_laws.specs.Feeding.{unfinished, refused_length, next_question}
@@ -23,7 +23,7 @@ pub record Comes (stream : List ℕ) (f : Fed) : Type 0 where
   pub holds : StreamHolds stream f.given f.reader
   pub nothing_left : f.left ≡ []
 
-pub none_judged : Verdict [] Nothing
+pub none_judged : Verdict [] (Ok None)
 none_judged = few (omega arith)
 
 pub new_holds : StreamHolds [] [] as_new
@@ -34,11 +34,11 @@ rest_comes : (q : List ℕ) (f : Fed) → Comes q f → Comes q (cond (eqb (leng
 rest_comes [] f c = record { holds = new_holds; nothing_left = refl }
 rest_comes (b ∷ q) f c = rw (eqb-suc-zero (length q)) c
 
-question_comes : {stream rest : List ℕ} {size : ℕ} {f : Fed} → Verdict stream (Question size) → drop size stream ≡ rest → Comes rest f
+question_comes : {stream rest : List ℕ} {size : ℕ} {f : Fed} → Verdict stream (Ok (Some size)) → drop size stream ≡ rest → Comes rest f
     → Comes stream (prepend (question (take size stream) ∷ []) f)
 question_comes j e c = record { holds = next_question j (rw (← e) at c.holds); nothing_left = c.nothing_left }
 
-pub feed_kept : (calls : ℕ) (s p : List ℕ) → Verdict s Nothing → length p < calls → Comes (s ++ p) (feed_for calls (keeping s) p)
+pub feed_kept : (calls : ℕ) (s p : List ℕ) → Verdict s (Ok None) → length p < calls → Comes (s ++ p) (feed_for calls (keeping s) p)
 unfolding feed_for given_by
 feed_kept zero s p j l = absurd (omega arith)
 feed_kept (suc calls) s p j l = by (call s p j) (λ q m. rw (← new_keeps) (feed_kept calls [] q none_judged m))

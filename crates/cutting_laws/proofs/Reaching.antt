@@ -11,7 +11,6 @@ use lib.ListN.{length}
 use Rattle.link_reader.specs.declared.Reader.{Reader}
 use Rattle.link_reader.specs.declared.Step.{Step}
 use Rattle.link_reader.specs.Reading.{number_b, after_refusal, refusal_of, read_of}
-use Rattle.link_reader.proofs.Apart.{apart}
 use Rattle.cutting_laws.specs.Feeding.{Given, Fed, feed_for, feed, Reached}
 use Rattle.cutting_laws.proofs.Calls.{Call, nothing, bad, finished, call}
 use Rattle.cutting_laws.proofs.Pieces.{Comes, feed_kept}
@@ -42,7 +41,7 @@ feeding_ends r h e piece = by (reached h).ends e
   where
     by : {rest : List ℕ} {last : List Given} {t : Reader} → Ends rest last t → t.refused ≡ false → (feed t piece).left ≡ []
     by (kept j) f = kept_left piece j
-    by (refused_rest j) f = apart (cc)
+    by (refused_rest j) f = absurd cc
 
 -- If two results of feeding are both what the same stream holds, they are equal.
 same_fed : {s : List ℕ} {f g : Fed} → Comes s f → Comes s g → f ≡ g

@@ -8,10 +8,9 @@ use Prim.Native.Nat.{ℕ, zero, suc}
 use lib.Dec.{eqb-suc-zero}
 use lib.ListN.{length}
 use Rattle.link_reader.specs.declared.Reader.{Reader}
-use Rattle.link_reader.specs.declared.Came.{Came}
-use Rattle.link_reader.specs.declared.Came.TheVariants.{Question, Nothing, BadLength, NeedsReset}
-use Rattle.link_reader.specs.Reading.{number, number_b, after_refusal, refusal_of, came_of, step_by, read_of}
-use Rattle.link_reader.proofs.Apart.{apart}
+use Rattle.std.specs.Prelude.{Some, None, Ok, Err}
+use Rattle.link_reader.specs.declared.Refusal.TheVariants.{BadLength, NeedsReset}
+use Rattle.link_reader.specs.Reading.{Came, number, number_b, after_refusal, refusal_of, came_of, step_by, read_of}
 use Rattle.cutting_laws.specs.Feeding.{given_by, fed, feed_for, feed, feed_all, concatenation}
 
 pub needs_reset_lem : (r : Reader) (piece : List ℕ) → r.refused ≡ true
@@ -26,10 +25,10 @@ refused_after r piece = by (came_of r piece)
   where
     by : (c : Came) → refusal_of (step_by c r piece).came ≡ number 1 ∷ []
         → ((step_by c r piece).taken ≡ length piece) × ((step_by c r piece).next ≡ after_refusal)
-    by (Question size) e = apart (cc)
-    by Nothing e = apart (cc)
-    by BadLength e = (refl, refl)
-    by NeedsReset e = apart (cc)
+    by (Ok (Some size)) e = absurd cc
+    by (Ok None) e = absurd cc
+    by (Err BadLength) e = (refl, refl)
+    by (Err NeedsReset) e = absurd cc
 
 pub refused_feed : (calls : ℕ) (p : List ℕ) → feed_for calls after_refusal p ≡ fed [] after_refusal p
 unfolding feed_for read_of came_of step_by given_by

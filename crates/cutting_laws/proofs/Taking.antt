@@ -8,7 +8,7 @@ use Prim.Native.Nat.{ℕ, suc}
 use native.Mathlib.Omega.{arith}
 use lib.ListN.{length}
 use Rattle.link_reader.specs.declared.Reader.{Reader}
-use Rattle.link_reader.specs.declared.Came.TheVariants.{Nothing}
+use Rattle.std.specs.Prelude.{None, Ok}
 use Rattle.link_reader.specs.Reading.{as_new, after_refusal}
 use Rattle.link_reader.specs.Verdicts.{Verdict}
 use Rattle.cutting_laws.specs.Feeding.{Given, question, Fed, feed, feed_all, concatenation}
@@ -19,7 +19,7 @@ use Rattle.cutting_laws.proofs.Holding.{feed_holds}
 use Rattle.cutting_laws.proofs.Parts.{Ends, kept, refused_rest, kept_ends, refused_ends, parts}
 
 -- A reader that keeps an unfinished rest leaves no byte of a piece.
-pub kept_left : {rest : List ℕ} (p : List ℕ) → Verdict rest Nothing → (feed (keeping rest) p).left ≡ []
+pub kept_left : {rest : List ℕ} (p : List ℕ) → Verdict rest (Ok None) → (feed (keeping rest) p).left ≡ []
 unfolding feed
 kept_left {rest} p j = (feed_kept (suc (length p)) rest p j (omega arith)).nothing_left
 

@@ -1,26 +1,26 @@
 -- Feeding a stream to a reader in pieces, and what the uncut stream holds (02, A2). Definitions only.
-use Rattle.std.specs.Prelude.{ℕ, zero, suc, ◌≡◌, true, false, cond, eqb, length, take, drop}
+use Rattle.std.specs.Prelude.{ℕ, zero, suc, ◌≡◌, true, false, cond, eqb, length, take, drop, Some, None, Ok, Err}
 use mathlib.Core.List.{List, [], ◌∷◌, ◌++◌, map, Memᴰ}
 use Rattle.little_endian.specs.Bytes.{written}
 use Rattle.records.specs.Layout.{LENGTH, value_of, size_of}
 use Rattle.link_reader.specs.declared.Reader.{Reader}
-use Rattle.link_reader.specs.declared.Came.{Came}
-use Rattle.link_reader.specs.declared.Came.TheVariants.{Question, Nothing, BadLength, NeedsReset}
-use Rattle.link_reader.specs.Reading.{Refusal, refusal_of, kept_of, blank, as_new, after_refusal, is_question_length, read_of}
+use Rattle.link_reader.specs.declared.Refusal.TheVariants.{BadLength, NeedsReset}
+use Rattle.link_reader.specs.Reading.{Came, RefusalNumber, refusal_of, kept_of, blank, as_new, after_refusal}
+use Rattle.link_reader.specs.Reading.{is_question_length, read_of}
 use Rattle.link_reader.specs.Verdicts.{Verdict}
 
 -- What a reader gives out: the bytes of a question, or a refusal.
 pub data Given : Type 0 where
   question : List ℕ → Given
-  refusal : Refusal → Given
+  refusal : RefusalNumber → Given
 
 -- What a call gives out, from its result and the buffer beside it: a question, or the refusal of a length. B4 is left out: 02, A2
 -- excludes it from the comparison.
 unfoldable pub given_by : Came → List ℕ → List Given
-given_by (Question size) bytes = question (take size bytes) ∷ []
-given_by Nothing bytes = []
-given_by BadLength bytes = map refusal (refusal_of BadLength)
-given_by NeedsReset bytes = []
+given_by (Ok (Some size)) bytes = question (take size bytes) ∷ []
+given_by (Ok None) bytes = []
+given_by (Err BadLength) bytes = map refusal (refusal_of (Err BadLength))
+given_by (Err NeedsReset) bytes = []
 
 -- The result of feeding: what the calls gave out, in order, the state of the reader afterwards, and the bytes that no call took.
 pub record Fed : Type 0 where
@@ -68,9 +68,10 @@ keeping bytes = record { bytes = written blank bytes; count = length bytes; refu
 -- What a stream holds: its questions one after another, byte for byte, and then either unfinished bytes, which are kept, or a length that
 -- is refused.
 pub data StreamHolds : List ℕ → List Given → Reader → Type 0 where
-  unfinished : {stream : List ℕ} → Verdict stream Nothing → StreamHolds stream [] (keeping stream)
-  refused_length : {stream : List ℕ} → Verdict stream BadLength → StreamHolds stream (map refusal (refusal_of BadLength)) after_refusal
-  next_question : {stream : List ℕ} {gs : List Given} {r : Reader} {size : ℕ} → Verdict stream (Question size)
+  unfinished : {stream : List ℕ} → Verdict stream (Ok None) → StreamHolds stream [] (keeping stream)
+  refused_length : {stream : List ℕ} → Verdict stream (Err BadLength)
+      → StreamHolds stream (map refusal (refusal_of (Err BadLength))) after_refusal
+  next_question : {stream : List ℕ} {gs : List Given} {r : Reader} {size : ℕ} → Verdict stream (Ok (Some size))
       → StreamHolds (drop size stream) gs r → StreamHolds stream (question (take size stream) ∷ gs) r
 
 -- The bytes of a question: their number is the size that their length field gives, and that length is in force. The reader leaves all
@@ -90,7 +91,7 @@ pub record TakenWhole (stream : List ℕ) (f : Fed) : Type 0 where
   pub all : AllQuestions questions
   pub given : f.given ≡ map question questions
   pub bytes : concatenation questions ++ kept_of f.reader ≡ stream
-  pub not_finished : Verdict (kept_of f.reader) Nothing
+  pub not_finished : Verdict (kept_of f.reader) (Ok None)
   pub nothing_left : f.left ≡ []
 
 -- A stream with a refused length: the questions before it were given out, and then the refusal, once. The bytes `dropped`, which begin
@@ -98,9 +99,9 @@ pub record TakenWhole (stream : List ℕ) (f : Fed) : Type 0 where
 pub record TakenToRefusal (stream : List ℕ) (f : Fed) : Type 0 where
   pub questions : List (List ℕ)
   pub all : AllQuestions questions
-  pub given : f.given ≡ map question questions ++ map refusal (refusal_of BadLength)
+  pub given : f.given ≡ map question questions ++ map refusal (refusal_of (Err BadLength))
   pub dropped : List ℕ
-  pub bad_length : Verdict dropped BadLength
+  pub bad_length : Verdict dropped (Err BadLength)
   pub bytes : concatenation questions ++ dropped ++ f.left ≡ stream
   pub reader : f.reader ≡ after_refusal
 

@@ -8,7 +8,7 @@ ghost use Rattle.records.specs.Layout.{question_room};
 ghost use Rattle.link_reader.specs.Reading.{size_given};
 ghost use Rattle.link.specs.Pieces.{reader_after};
 
-use link_reader::{Came, Reader, Step};
+use link_reader::{Reader, Refusal, Step};
 use little_endian::u16_at;
 use records::{ANSWER_ROOM, QUESTION_ROOM};
 use standard_input::Got;
@@ -189,16 +189,16 @@ fn answer_step(rt: &impl Eprint, output: &mut impl Write, step: Step) -> bool
     let question = step.question;
     let came = step.came;
     match came {
-        Came::Question(size) => answer_first(rt, output, &question, size),
-        Came::Nothing => true,
-        Came::BadLength => {
+        Ok(Some(size)) => answer_first(rt, output, &question, size),
+        Ok(None) => true,
+        Err(Refusal::BadLength) => {
             let _ = eprintln!(rt;
                 "link: a length that no question has: nothing after it is read until a reset"
             );
             answer(rt, output, b"");
             false
         }
-        Came::NeedsReset => false,
+        Err(Refusal::NeedsReset) => false,
     }
 }
 

@@ -9,9 +9,9 @@ use lib.ListN.{length, take, drop, length-append, length-take}
 use Rattle.records.specs.Layout.{question_room}
 use Rattle.link_reader.specs.declared.Reader.{Reader}
 use Rattle.link_reader.specs.declared.Step.{Step}
-use Rattle.link_reader.specs.declared.Came.{Came}
-use Rattle.link_reader.specs.declared.Came.TheVariants.{Question, Nothing, BadLength, NeedsReset}
-use Rattle.link_reader.specs.Reading.{kept_of, size_given, came_of, step_by, read_of}
+use Rattle.std.specs.Prelude.{Some, None, Ok, Err}
+use Rattle.link_reader.specs.declared.Refusal.TheVariants.{BadLength, NeedsReset}
+use Rattle.link_reader.specs.Reading.{Came, kept_of, size_given, came_of, step_by, read_of}
 use Rattle.link_reader.proofs.Verdicts.{came_verdict, whole_fits}
 
 pub taken_within : (r : Reader) (piece : List ℕ) (s : Step) → s ≡ read_of r piece → s.taken ≤ length piece
@@ -19,20 +19,20 @@ unfolding read_of step_by
 taken_within r piece s is = rw is (by (came_of r piece) refl)
   where
     by : (came : Came) → came_of r piece ≡ came → (step_by came r piece).taken ≤ length piece
-    by (Question size) e = omega (arith, (whole_fits (came_verdict r piece e refl)).0, length-append (kept_of r) piece)
-    by Nothing e = omega arith
-    by BadLength e = omega arith
-    by NeedsReset e = omega arith
+    by (Ok (Some size)) e = omega (arith, (whole_fits (came_verdict r piece e)).0, length-append (kept_of r) piece)
+    by (Ok None) e = omega arith
+    by (Err BadLength) e = omega arith
+    by (Err NeedsReset) e = omega arith
 
 pub question_fits : (r : Reader) (piece : List ℕ) (s : Step) → s ≡ read_of r piece → size_given s.came ≤ question_room
 unfolding read_of step_by
 question_fits r piece s is = rw is (by (came_of r piece) refl)
   where
     by : (came : Came) → came_of r piece ≡ came → size_given (step_by came r piece).came ≤ question_room
-    by (Question size) e = (whole_fits (came_verdict r piece e refl)).1
-    by Nothing e = omega arith
-    by BadLength e = omega arith
-    by NeedsReset e = omega arith
+    by (Ok (Some size)) e = (whole_fits (came_verdict r piece e)).1
+    by (Ok None) e = omega arith
+    by (Err BadLength) e = omega arith
+    by (Err NeedsReset) e = omega arith
 
 -- If a call reads the rest of a piece from index `at` on, the bytes it takes end within the piece.
 pub rest_within : (r : Reader) (piece : List ℕ) (at : ℕ) (s : Step) → at ≤ length piece

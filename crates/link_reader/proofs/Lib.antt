@@ -1,6 +1,4 @@
-pub mod Apart
 mod Lengths
-mod Held
 pub mod Verdicts
 mod Refusals
 mod Writing

@@ -1,4 +1,4 @@
--- The result of a call has the refusal that `refusal_for` gives for the reader and the piece (`refusal_given`). If a length was refused
+-- The result of a call has the refusal that `refusal_for` gives for the reader and the piece (`refusal_is`). If a length was refused
 -- before, it is B4. Otherwise the proof goes through the four cases of `Verdict`.
 use mathlib.Core.Path.{◌≡◌, refl, ap, ◌∙◌}
 use mathlib.Core.Bool.{Bool, true, false, cond}
@@ -9,9 +9,10 @@ use lib.ListN.{length}
 use Rattle.records.specs.Layout.{LENGTH}
 use Rattle.link_reader.specs.declared.Reader.{Reader}
 use Rattle.link_reader.specs.declared.Step.{Step}
-use Rattle.link_reader.specs.declared.Came.{Came}
-use Rattle.link_reader.specs.declared.Came.TheVariants.{Question, Nothing, BadLength, NeedsReset}
+use Rattle.std.specs.Prelude.{Some, None, Ok, Err}
+use Rattle.link_reader.specs.declared.Refusal.TheVariants.{BadLength, NeedsReset}
 use Rattle.link_reader.specs.Reading.{
+  Came,
   number,
   number_b,
   kept_of,
@@ -33,24 +34,24 @@ refusal_judged {s} (bad n f) = rw (le-leb LENGTH.width (length s) n, f)
 refusal_judged {s} (part n f l) = rw (le-leb LENGTH.width (length s) n, f)
 refusal_judged {s} (whole n f l e) = rw (le-leb LENGTH.width (length s) n, f)
 
-refusal_came : (r : Reader) (piece : List ℕ) → refusal_of (came_of r piece) ≡ refusal_for r piece
+pub refusal_came : (r : Reader) (piece : List ℕ) → refusal_of (came_of r piece) ≡ refusal_for r piece
 unfolding came_of refusal_for
 refusal_came r piece = by (kept_of r ++ piece) r.refused
   where
     by : (held : List ℕ) (b : Bool)
-        → refusal_of (cond b NeedsReset (judged held)) ≡ cond b (number_b 4 ∷ []) (cond (has_bad_length held) (number 1 ∷ []) [])
+        → refusal_of (cond b (Err NeedsReset) (judged held)) ≡ cond b (number_b 4 ∷ []) (cond (has_bad_length held) (number 1 ∷ []) [])
     by held true = refl
     by held false = refusal_judged (verdict refl)
 
 -- A step contains the result that it was made for.
 step_came : (came : Came) (r : Reader) (piece : List ℕ) → (step_by came r piece).came ≡ came
 unfolding step_by
-step_came (Question size) r piece = refl
-step_came Nothing r piece = refl
-step_came BadLength r piece = refl
-step_came NeedsReset r piece = refl
+step_came (Ok (Some size)) r piece = refl
+step_came (Ok None) r piece = refl
+step_came (Err BadLength) r piece = refl
+step_came (Err NeedsReset) r piece = refl
 
-pub refusal_given : (r : Reader) (piece : List ℕ) {s : Step} → s ≡ read_of r piece → refusal_of s.came ≡ refusal_for r piece
+pub refusal_is : (r : Reader) (piece : List ℕ) {s : Step} → s ≡ read_of r piece → refusal_of s.came ≡ refusal_for r piece
 unfolding read_of
-refusal_given r piece is =
+refusal_is r piece is =
     ap (λ (t : Step). refusal_of t.came) is ∙ ap refusal_of (step_came (came_of r piece) r piece) ∙ refusal_came r piece

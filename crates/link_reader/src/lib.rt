@@ -2,19 +2,19 @@
 // bytes it took, and its result. The caller passes in again the bytes that the call did not take.
 #![tactic(auto)]
 
-ghost use Rattle.std.specs.Prelude.{◌≡◌, ◌+◌, ◌≤◌, length};
-ghost use Rattle.std.proofs.Math.Seq.{paste};
+ghost use Rattle.std.specs.Prelude.{◌≡◌, ◌+◌, ◌≤◌, ◌++◌, length, Some, None, Ok};
+ghost use Rattle.little_endian.specs.Bytes.{written};
 ghost use Rattle.records.specs.Layout.{question_room};
-ghost use Rattle.link_reader.specs.Reading.{kept_of, as_new, read_of, step_by, refusal_of, refusal_for};
-ghost use Rattle.link_reader.specs.declared.Came.TheVariants.{Question, Nothing};
+ghost use Rattle.link_reader.specs.Reading.{kept_of, as_new, came_of, read_of, step_by, refusal_of, refusal_for};
 
 mod judging;
 
-use judging::{at_most, came_of, missing};
+use judging::judge;
 use records::QUESTION_ROOM;
 
 // The state of a reader: the bytes received of an unfinished question, their count, and whether a length was refused since the last
-// reset.
+// reset. The bytes stand in a fixed buffer with a count beside it, because there is no heap. `refused` is a flag beside them, and not an
+// enum without bytes, because `read` promises to leave a refused reader as it was, whatever bytes its fields hold.
 #[derive(Clone, Copy)]
 pub struct Reader {
     pub bytes: [u8; QUESTION_ROOM],
@@ -22,18 +22,19 @@ pub struct Reader {
     pub refused: bool,
 }
 
-// The result of a call: a finished question with its size; nothing yet; a length that is not in force, which is refused; or a reader that
-// needs a reset, which is a refusal too. The definition `refusal_of` gives the numbers of the two refusals.
-#[derive(Clone, Copy)]
-pub enum Came {
-    Question(usize),
-    Nothing,
+// Why a call is refused: a length is not in force, or the reader needs a reset. The definition `refusal_of` gives their numbers.
+#[derive(Clone, Copy, Debug, PartialEq, Eq)]
+pub enum Refusal {
     BadLength,
     NeedsReset,
 }
 
+// The result of a call: the size of a finished question, `None` if no question is finished yet, or a refusal.
+pub type Came = Result<Option<usize>, Refusal>;
+
 // What a call returns: the next state, how many bytes of the piece it took, its result, and a buffer. The buffer begins with the bytes of
-// a finished question; it is all zeros if no question is finished.
+// a finished question; it is all zeros if no question is finished. It stands beside the result, because `read` promises its bytes for
+// every result.
 #[derive(Clone, Copy)]
 pub struct Step {
     pub next: Reader,
@@ -62,82 +63,96 @@ impl Reader {
     }
 
     // Reads a piece of any number of bytes. The contract `step` gives the whole step, and `refusal` says which refusal it has, if any.
+    #[tactic(auto, using(crate::proofs::Refusals::refusal_is), unfolding(crate::specs::Reading::read_of, crate::specs::Reading::step_by))]
     pub fn read(self, piece: &[u8]) -> Step
         ensures step { result ≡ read_of self piece.now }
         ensures refusal { refusal_of result.came ≡ refusal_for self piece.now }
     {
-        match came_of(self, piece) {
-            Came::Question(size) => finished(self, piece, size),
-            Came::Nothing => kept(self, piece),
-            Came::BadLength => Step {
+        match self.came_of(piece) {
+            Ok(Some(size)) => self.finished(piece, size),
+            Ok(None) => self.unfinished(piece),
+            Err(Refusal::BadLength) => Step {
                 next: Reader {
                     bytes: [0; QUESTION_ROOM],
                     count: 0,
                     refused: true,
                 },
                 taken: piece.len(),
-                came: Came::BadLength,
+                came: Err(Refusal::BadLength),
                 question: [0; QUESTION_ROOM],
             },
-            Came::NeedsReset => Step {
+            Err(Refusal::NeedsReset) => Step {
                 next: self,
                 taken: 0,
-                came: Came::NeedsReset,
+                came: Err(Refusal::NeedsReset),
                 question: [0; QUESTION_ROOM],
             },
         }
     }
-}
 
-// Returns the step for a piece that finishes a question of the given size. The step takes the piece up to the question's last byte, and
-// the next state is the initial one.
-fn finished(reader: Reader, piece: &[u8], size: usize) -> Step
-    requires { (size ≤ question_room) × (size ≤ length (kept_of reader) + length piece.now) }
-    ensures { result ≡ step_by (Question size) reader piece.now }
-{
-    let count = at_most(reader.count, QUESTION_ROOM);
-    let bytes = reader.bytes;
-    let taken = missing(count, size);
-    let question = appended(bytes, count, piece, taken);
-    let next = Reader::new();
-    Step {
-        next,
-        taken,
-        came: Came::Question(size),
-        question,
+    // Decides the result for a piece.
+    #[tactic(auto, unfolding(crate::specs::Reading::came_of))]
+    fn came_of(&self, piece: &[u8]) -> Came
+        ensures { result ≡ came_of self.now piece.now }
+    {
+        if self.refused {
+            return Err(Refusal::NeedsReset);
+        }
+        judge(self.kept(), piece)
     }
-}
 
-// Returns the step for a piece that finishes no question. The step takes the whole piece and keeps it.
-fn kept(reader: Reader, piece: &[u8]) -> Step
-    requires { length (kept_of reader) + length piece.now ≤ question_room }
-    ensures { result ≡ step_by Nothing reader piece.now }
-{
-    let count = at_most(reader.count, QUESTION_ROOM);
-    let bytes = reader.bytes;
-    let longer = appended(bytes, count, piece, piece.len());
-    Step {
-        next: Reader {
-            bytes: longer,
-            count: count + piece.len(),
-            refused: false,
-        },
-        taken: piece.len(),
-        came: Came::Nothing,
-        question: [0; QUESTION_ROOM],
+    // Returns the bytes that the reader keeps.
+    fn kept(&self) -> &[u8]
+        ensures { result.now ≡ kept_of self.now }
+    {
+        let n = self.count.min(QUESTION_ROOM);
+        &self.bytes[..n]
     }
-}
 
-// Returns `bytes` with the first n bytes of a piece written from index `at` on.
-fn appended(bytes: [u8; QUESTION_ROOM], at: usize, piece: &[u8], n: usize) -> [u8; QUESTION_ROOM]
-    requires { (at + n ≤ question_room) × (n ≤ length piece.now) }
-    ensures { result ≡ paste bytes at piece.now n }
-{
-    let mut out = bytes;
-    let mut i = 0;
-    while i < n {
-        out[at + i] = piece[i];
-        i += 1;
+    // Returns the step for a piece that finishes a question of the given size. The step takes the piece up to the question's last byte,
+    // and the next state is the initial one.
+    #[tactic(auto, using(crate::proofs::Writing::question_written), unfolding(crate::specs::Reading::step_by))]
+    fn finished(&self, piece: &[u8], size: usize) -> Step
+        requires fits { size ≤ question_room }
+        requires arrived { size ≤ length (kept_of self.now) + length piece.now }
+        ensures { result ≡ step_by (Ok (Some size)) self.now piece.now }
+    {
+        let taken = size.saturating_sub(self.kept().len());
+        Step {
+            next: Self::new(),
+            taken,
+            came: Ok(Some(size)),
+            question: self.bytes_with(&piece[..taken]),
+        }
     }
-    out
+
+    // Returns the step for a piece that finishes no question. The step takes the whole piece and keeps it.
+    #[tactic(auto, unfolding(crate::specs::Reading::step_by))]
+    fn unfinished(&self, piece: &[u8]) -> Step
+        requires { length (kept_of self.now) + length piece.now ≤ question_room }
+        ensures { result ≡ step_by (Ok None) self.now piece.now }
+    {
+        Step {
+            next: Reader {
+                bytes: self.bytes_with(piece),
+                count: self.kept().len() + piece.len(),
+                refused: false,
+            },
+            taken: piece.len(),
+            came: Ok(None),
+            question: [0; QUESTION_ROOM],
+        }
+    }
+
+    // Returns the buffer with the given bytes written after the kept ones.
+    #[tactic(auto, using(crate::proofs::Writing::put_after))]
+    fn bytes_with(&self, more: &[u8]) -> [u8; QUESTION_ROOM]
+        requires { length (kept_of self.now) + length more.now ≤ question_room }
+        ensures { result ≡ written self.now.bytes (kept_of self.now ++ more.now) }
+    {
+        let at = self.kept().len();
+        let mut bytes = self.bytes;
+        bytes[at..at + more.len()].copy_from_slice(more);
+        bytes
+    }
 }

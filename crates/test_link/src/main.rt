@@ -11,7 +11,7 @@ ghost use Rattle.std.specs.Prelude.{◌≡◌, ◌≤◌, length};
 ghost use Rattle.records.specs.Layout.{question_room};
 ghost use Rattle.link_reader.specs.Reading.{size_given};
 
-use link_reader::{Came, Reader, Step};
+use link_reader::{Reader, Refusal, Step};
 use little_endian::{u16_at, word_at};
 use records::QUESTION_ROOM;
 use std::io;
@@ -118,15 +118,15 @@ fn print_step(rt: &impl Print, step: Step) -> io::Result<bool>
     let taken = step.taken;
     let came = step.came;
     match came {
-        Came::Question(size) => {
+        Ok(Some(size)) => {
             print_taken(rt, "Q", taken)?;
             print!(rt; "=")?;
             print_first(rt, &question, size)?;
             Ok(true)
         }
-        Came::Nothing => print_taken(rt, "N", taken),
-        Came::BadLength => print_taken(rt, "R", taken),
-        Came::NeedsReset => {
+        Ok(None) => print_taken(rt, "N", taken),
+        Err(Refusal::BadLength) => print_taken(rt, "R", taken),
+        Err(Refusal::NeedsReset) => {
             print_taken(rt, "B", taken)?;
             Ok(false)
         }

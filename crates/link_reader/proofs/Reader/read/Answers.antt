@@ -1,60 +1,39 @@
 -- `Reader::read` meets its contract: the result decides which step it is, and the step has the refusal that the contract promises.
-use mathlib.Core.Path.{◌≡◌, refl, sym, ap, ◌∙◌}
-use mathlib.Core.List.{List}
-use Prim.Native.Nat.{ℕ}
+use mathlib.Core.Path.{◌≡◌, ap, ◌∙◌}
 use native.Mathlib.Omega.{arith}
 use lib.ListN.{length-append}
-use Rattle.link_reader.specs.declared.Reader.{Reader}
-use Rattle.link_reader.specs.declared.Step.{Step}
-use Rattle.link_reader.specs.declared.Came.{Came}
-use Rattle.link_reader.specs.Reading.{kept_of, refusal_of, refusal_for, came_of, step_by, read_of}
+use Rattle.std.specs.Prelude.{Some, None, Ok, Err}
+use Rattle.link_reader.specs.declared.Refusal.TheVariants.{BadLength, NeedsReset}
+use Rattle.link_reader.specs.Reading.{kept_of, refusal_of, came_of}
 use Rattle.link_reader.proofs.Verdicts.{came_verdict, part_fits, whole_fits}
-use Rattle.link_reader.proofs.Refusals.{refusal_given}
+use Rattle.link_reader.proofs.Refusals.{refusal_came}
 use Rattle.link_reader.proofs.Reader.read.Goals as goal
-
--- A step made for the result of `came_of` is the promised step, and has the promised refusal.
-read_by : (r : Reader) (piece : List ℕ) {came told : Came} {s : Step} → s ≡ step_by came r piece → told ≡ came_of r piece → told ≡ came
-    → (s ≡ read_of r piece) × (refusal_of s.came ≡ refusal_for r piece)
-unfolding read_of
-read_by r piece is e f =
-    let step = is ∙ ap (λ (k : Came). step_by k r piece) (sym f ∙ e) in
-    (step, refusal_given r piece step)
 
 pub finished-requires : goal.finished-requires
 finished-requires c =
     let a = c.args in
-    let told = sym c.came_of.ensures ∙ c.in-Question.is in
-    let fits = whole_fits (came_verdict a.self a.piece.now told refl) in
-    (fits.1, omega (arith, fits.0, length-append (kept_of a.self) a.piece.now))
+    let came = c.in-Ok-Some in
+    let told : came_of a.self a.piece.now ≡ Ok (Some came.size) = cc (c.came_of.ensures, came.is, came.field-0-is) in
+    let fits = whole_fits (came_verdict a.self a.piece.now told) in
+    record { fits = fits.1; arrived = omega (arith, fits.0, length-append (kept_of a.self) a.piece.now) }
 
-pub kept-requires : goal.kept-requires
-kept-requires c =
+pub unfinished-requires : goal.unfinished-requires
+unfinished-requires c =
     let a = c.args in
-    let told = sym c.came_of.ensures ∙ c.in-Nothing.is in
-    omega (arith, part_fits (came_verdict a.self a.piece.now told refl), length-append (kept_of a.self) a.piece.now)
+    let came = c.in-Ok-None in
+    let told : came_of a.self a.piece.now ≡ Ok None = cc (c.came_of.ensures, came.is, came.field-0-is) in
+    omega (arith, part_fits (came_verdict a.self a.piece.now told), length-append (kept_of a.self) a.piece.now)
 
-pub returns-in-Question : goal.returns-in-Question
-returns-in-Question c =
+pub returns-in-Err-BadLength-clause-refusal : goal.returns-in-Err-BadLength-clause-refusal
+returns-in-Err-BadLength-clause-refusal c =
     let a = c.args in
-    let both = read_by a.self a.piece.now c.finished.ensures c.came_of.ensures c.in-Question.is in
-    record { step = both.0; refusal = both.1 }
+    let came = c.in-Err-BadLength in
+    let told : Err BadLength ≡ came_of a.self a.piece.now = cc (c.came_of.ensures, came.is, came.field-0-is) in
+    ap refusal_of told ∙ refusal_came a.self a.piece.now
 
-pub returns-in-Nothing : goal.returns-in-Nothing
-returns-in-Nothing c =
+pub returns-in-Err-NeedsReset-clause-refusal : goal.returns-in-Err-NeedsReset-clause-refusal
+returns-in-Err-NeedsReset-clause-refusal c =
     let a = c.args in
-    let both = read_by a.self a.piece.now c.kept.ensures c.came_of.ensures c.in-Nothing.is in
-    record { step = both.0; refusal = both.1 }
-
-pub returns-in-BadLength : goal.returns-in-BadLength
-unfolding step_by
-returns-in-BadLength c =
-    let a = c.args in
-    let both = read_by a.self a.piece.now refl c.came_of.ensures c.in-BadLength.is in
-    record { step = both.0; refusal = both.1 }
-
-pub returns-in-NeedsReset : goal.returns-in-NeedsReset
-unfolding step_by
-returns-in-NeedsReset c =
-    let a = c.args in
-    let both = read_by a.self a.piece.now refl c.came_of.ensures c.in-NeedsReset.is in
-    record { step = both.0; refusal = both.1 }
+    let came = c.in-Err-NeedsReset in
+    let told : Err NeedsReset ≡ came_of a.self a.piece.now = cc (c.came_of.ensures, came.is, came.field-0-is) in
+    ap refusal_of told ∙ refusal_came a.self a.piece.now
