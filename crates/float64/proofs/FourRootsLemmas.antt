@@ -1,7 +1,6 @@
 -- What `four_roots_of` gives if all four numbers have a root (`all_roots`), and what a conjunction of four tests says (`all_true`).
-use Rattle.std.proofs.Common.{◌≡◌, Bool, true, false, ◌&&◌, sym, refl, Some, None}
+use Rattle.std.proofs.Common.{◌≡◌, Bool, true, false, ◌&&◌, sym, refl, Some}
 use mathlib.Core.Bool.{false≢true}
-use lib.Ieee.{Float}
 use Rattle.float64.specs.Root.{root_of}
 use Rattle.float64.specs.FourRoots.{four_roots_of}
 use Rattle.float64.specs.declared.side_by_side.Four.{Four}

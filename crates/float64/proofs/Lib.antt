@@ -3,7 +3,6 @@ mod Lengths
 mod Significands
 pub mod Patterns
 pub mod Comparisons
-mod Magnitudes
 pub mod Bits
 mod Trials
 mod Rounds
