@@ -1,4 +1,4 @@
-// Signed numbers as words of 64 and of 32 bits, in two's complement.
+// Signed numbers as words of 64 and of 32 bits, in two's complement. Each function is one call of the library's cast at its width.
 ghost use Rattle.std.specs.Prelude.{◌≡◌};
 ghost use Rattle.little_endian.specs.Bytes.{signed_bits, signed_of, signed32_bits, signed32_of};
 

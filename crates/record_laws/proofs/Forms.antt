@@ -36,7 +36,7 @@ use Rattle.solver.specs.Table.{crossing_count, any_void, all_finite, late_checks
 use Rattle.solver.specs.Solve.{late_refusal, outcome_for}
 use Rattle.solver.specs.declared.Outcome.TheVariants.{Answered}
 use Rattle.solver.proofs.Numbering.{rows, rows_are, report_agrees, few}
-use Rattle.record_laws.specs.RecordForm.{RecordForm, not_question_lem, refusal, void_refusal_lem, answer}
+use Rattle.record_laws.specs.RecordForm.{RecordForm, malformed_question, refusal, void_refusal, answer}
 use Rattle.record_laws.proofs.VoidStations.{void_station}
 
 -- ---- the numbers 11 to 14
@@ -138,7 +138,7 @@ module _ (s : List ℕ) where
 
   by_number : (n : ℕ) → judge_of s answer_room ≡ Refused n → (one : Bool) → eqb n 1 ≡ one → RecordForm s (refusal_bytes (refusal_for s n))
   unfolding refusal_for
-  by_number n e true one = rw (eqb-true n 1 one) not_question_lem
+  by_number n e true one = rw (eqb-true n 1 one) malformed_question
   by_number n e false one =
       let first = (refused_exactly s answer_room n (positive n e)).only e in
       let other : n ≡ 1 → ⊥ = eqb-false n 1 one in
@@ -158,7 +158,7 @@ module _ (s : List ℕ) where
   late_form some job none_void e timed false t =
       let number = late_between own some in
       refusal_form late_row number.0 number.1 (eqb-false late_row void_number t) job
-  late_form some job (some_void_lem station) e void true t = rw t (void_refusal_lem station (void_station own station e) job)
+  late_form some job (some_void_lem station) e void true t = rw t (void_refusal station (void_station own station e) job)
   late_form some job (some_void_lem station) e void false t =
       let number = late_between own some in
       rw t (refusal_form late_row number.0 number.1 (eqb-false late_row void_number t) job)

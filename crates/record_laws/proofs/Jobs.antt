@@ -18,7 +18,7 @@ use Rattle.records.specs.declared.Entry.{Entry}
 use Rattle.records.proofs.Answers.{answer_head_back}
 use Rattle.records.proofs.Reading.{refusal_held, refusal_head_back, answer_held}
 use Rattle.entrance.specs.Table.{Exactly}
-use Rattle.record_laws.specs.RecordForm.{RecordForm, not_question_lem, refusal, void_refusal_lem, answer, not_question, JobNamed}
+use Rattle.record_laws.specs.RecordForm.{RecordForm, malformed_question, refusal, void_refusal, answer, not_question, JobNamed}
 use Rattle.record_laws.proofs.Forms.{record_form}
 
 zero_job : job_of not_question ≡ 0
@@ -70,10 +70,10 @@ module _ (s : List ℕ) (bytes : AreBytes s) where
   -- A record is the refusal with number 1, or it names the question's own job and revision.
   either : {l : List ℕ} → RecordForm s l → (l ≡ not_question) ⊎ Own l
   unfolding void_refusal_for
-  either not_question_lem = inl refl
+  either malformed_question = inl refl
   either (refusal n low high other above) =
       inr (refusal_own (refusal_with job revision n) refl refl (omega (arith, high)) above)
-  either (void_refusal_lem station grid above) = inr (refusal_own (void_refusal_for s station) refl refl (omega arith) above)
+  either (void_refusal station grid above) = inr (refusal_own (void_refusal_for s station) refl refl (omega arith) above)
   either (answer es low high ends above) = inr (answer_own es high above)
 
   -- The two statements of `JobNamed` follow in each of these cases.

@@ -14,15 +14,15 @@ use Rattle.outcomes.specs.Outcomes.{is_outcome}
 use Rattle.outcomes.proofs.Written.{refusal_outcome, answer_outcome}
 use Rattle.board.specs.Board.{SLOTS, is_board, held_on, board_of, placed, board_refusal, placed_on, post_of}
 use Rattle.board.specs.declared.Posted.TheVariants.{Taken, Refused}
-use Rattle.record_laws.specs.RecordForm.{RecordForm, not_question_lem, refusal, void_refusal_lem, answer}
+use Rattle.record_laws.specs.RecordForm.{RecordForm, malformed_question, refusal, void_refusal, answer}
 use Rattle.record_laws.proofs.Forms.{record_form}
 
 form_outcome : (s : List ℕ) {l : List ℕ} → RecordForm s l → is_outcome l ≡ true
 unfolding void_refusal_for
-form_outcome s not_question_lem = refusal_outcome (refusal_with 0 0 1) (omega arith) (omega arith)
+form_outcome s malformed_question = refusal_outcome (refusal_with 0 0 1) (omega arith) (omega arith)
 form_outcome s (refusal n low high other above) =
     refusal_outcome (refusal_with (job_of s) (revision_of s) n) (omega (arith, low)) (omega (arith, high))
-form_outcome s (void_refusal_lem station grid above) = refusal_outcome (void_refusal_for s station) (omega arith) (omega arith)
+form_outcome s (void_refusal station grid above) = refusal_outcome (void_refusal_for s station) (omega arith) (omega arith)
 form_outcome s (answer es low high ends above) = answer_outcome (job_of s) (revision_of s) es low high ends
 
 pub record_outcome : (s : List ℕ) → is_outcome (record_of s) ≡ true

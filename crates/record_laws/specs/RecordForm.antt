@@ -27,10 +27,10 @@ pub record IsStation (M : ℕ) (j : ℤ) : Type 0 where
 -- job and revision, and this job is not 0. Number 7 never occurs, because a record is made with room for the longest
 -- answer; the contract of `write_record` says so, and this definition does not.
 pub data RecordForm (s : List ℕ) : List ℕ → Type 0 where
-  not_question_lem : RecordForm s not_question
+  malformed_question : RecordForm s not_question
   refusal : (n : ℕ) → first_number < n → n ≤ last_number → (n ≡ void_number → ⊥) → 0 < job_of s →
       RecordForm s (refusal_bytes (refusal_with (job_of s) (revision_of s) n))
-  void_refusal_lem : (station : VoidStation) → IsStation (value_of REVOLUTIONS s) station.j → 0 < job_of s →
+  void_refusal : (station : VoidStation) → IsStation (value_of REVOLUTIONS s) station.j → 0 < job_of s →
       RecordForm s (refusal_bytes (void_refusal_for s station))
   answer : (es : List Entry) → 1 ≤ length es → length es ≤ most_entries → ((e : Entry) → Memᴰ e es → e.chosen ≤ 1) →
       0 < job_of s → RecordForm s (answer_bytes (job_of s) (revision_of s) es)

@@ -85,15 +85,13 @@ head_back h after r =
 
 -- A refusal with number 12, and one with another number.
 void_refusal_from : List ℕ → Refusal
-void_refusal_from v =
-    record {
-      job = get_or v 2 0;
-      revision = get_or v 3 0;
-      number = get_or v 4 0;
-      station = signed32_of
-          (get_or v 5 0);
-      reason = get_or v 6 0;
-    }
+void_refusal_from v = record {
+  job = get_or v 2 0;
+  revision = get_or v 3 0;
+  number = get_or v 4 0;
+  station = signed32_of (get_or v 5 0);
+  reason = get_or v 6 0;
+}
 
 other_refusal_from : List ℕ → Refusal
 other_refusal_from v = refusal_with (get_or v 2 0) (get_or v 3 0) (get_or v 4 0)

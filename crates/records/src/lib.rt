@@ -1,6 +1,9 @@
 // Reading and writing the records of 01 and 02, and the conflict of a board's slot (02, A1). Reading accepts any bytes, and
 // a byte past the end counts as 0. Writing starts at the first byte of the buffer. If the buffer is too short, a
 // write changes nothing and returns false.
+//
+// Each record has a function that writes it, and its own table of widths. One function over a trait is no shorter: every function is
+// one call of `put_numbers`, and the trait would need members for the table, for the numbers and for the bytes of the contract.
 #![tactic(auto)]
 
 ghost use Rattle.std.specs.Prelude.{◌≡◌};
@@ -22,7 +25,8 @@ pub use heads::{answer_head, answer_size, read_head, write_head};
 pub use questions::{read_question, write_question};
 pub use refusals::{read_refusal, refusal_size, refusal_with, write_refusal};
 
-// The kinds of records. A conflict occurs only in the slots of a board.
+// The kinds of records. A conflict occurs only in the slots of a board. A kind stays a number, and the field `kind` a u16: it is
+// two bytes of the record, reading takes any bytes, and the contracts of the crates above allow every number in them.
 pub const QUESTION_KIND: u16 = 1;
 
 pub const ANSWER_KIND: u16 = 2;

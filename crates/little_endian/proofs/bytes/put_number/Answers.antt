@@ -1,15 +1,11 @@
 -- `bytes::put_number` meets its contract. The loop invariant is that storing the rest of the number from the current offset
 -- on completes what the function has to store.
 use Prim.Native.Nat.{suc, ◌+◌, ◌-◌}
-use mathlib.Core.Path.{◌≡◌, refl}
+use mathlib.Core.Path.{◌≡◌}
 use native.Mathlib.Omega.{arith}
-use native.Mathlib.Nat.{add-zero, sub-zero}
 use lib.ListN.{length-set}
 use Rattle.little_endian.specs.Bytes.{bytes_of}
 use Rattle.little_endian.proofs.bytes.put_number.Goals as goal
-
-pub loop-i-init : goal.loop-i-init
-loop-i-init c = (refl, simp (add-zero, sub-zero))
 
 pub loop-i-preserved : goal.loop-i-preserved
 unfolding bytes_of
@@ -20,9 +16,6 @@ loop-i-preserved c =
     let s : w - i ≡ suc (w - (i + 1)) = omega arith in
     let e : at + (i + 1) ≡ suc (at + i) = omega arith in
     (simp length-set c.loop-i.invariant.0, rw e (rw s at c.loop-i.invariant.1))
-
-pub shape_of-out : goal.shape_of-out
-shape_of-out c = c.loop-i.invariant.0
 
 pub returns : goal.returns
 unfolding bytes_of

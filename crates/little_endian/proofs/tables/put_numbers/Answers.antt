@@ -1,18 +1,12 @@
 -- `tables::put_numbers` meets its contract: without room it stores nothing, and with room it stores the numbers' bytes.
 use mathlib.Core.Path.{sym, ◌∙◌}
 use borrow.Author.Rules.{rules}
-use borrow.Author.Tests.{leb-true}
 use Prim.Native.Nat.{◌≤◌}
 use lib.ListN.{length}
 use Rattle.little_endian.specs.Tables.{total, packed}
 use Rattle.little_endian.proofs.Tabled.{packed_length}
 use Rattle.little_endian.proofs.Writing.{no_room, stored}
 use Rattle.little_endian.proofs.tables.put_numbers.Goals as goal
-
-pub store-requires : goal.store-requires
-store-requires g c =
-    let a = c.args in
-    leb-true (total a.widths) (length a.out.now) (sym c.fits.ensures ∙ c.if-fits.true)
 
 pub returns-then-fits : goal.returns-then-fits
 returns-then-fits g c =
