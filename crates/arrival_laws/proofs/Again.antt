@@ -9,7 +9,7 @@ use Prim.Native.Nat.{ℕ}
 use native.Mathlib.Omega.{arith}
 use Rattle.records.specs.Layout.{job_of}
 use Rattle.records.specs.Records.{conflict_bytes}
-use Rattle.board.specs.Board.{held_on, empty_board, Result, post_of}
+use Rattle.board.specs.Board.{held_on, empty_board, PostResult, post_of}
 use Rattle.arrival_laws.specs.Messages.{post_all, ◌∈◌, AllBytes, CameFor, HeldFor, SomeOf}
 use Rattle.arrival_laws.proofs.Joining.{Joining, newer, older, again, clash, joining}
 use Rattle.arrival_laws.proofs.Placing.{placing, grown}
@@ -34,7 +34,7 @@ module _ (ms : List (List ℕ)) (m : List ℕ) (bytes : AllBytes ms) where
       k : Keeps ms (held_on b)
       k = keeps_always ms bytes
 
-      by : {o : Result} → Posting b m o → post_of b m ≡ o → o.board ≡ b
+      by : {o : PostResult} → Posting b m o → post_of b m ≡ o → o.board ≡ b
       by (no_board f) e = refl
       by (malformed f g) e = refl
       by (unnamed f g h) e = refl
@@ -46,4 +46,4 @@ module _ (ms : List (List ℕ)) (m : List ℕ) (bytes : AllBytes ms) where
           let for = s.1.1 in
           let same =
           holds_again (joining held m) (rw for at (k.holds held s.1.0)) (record { among = i; postable = postable; for = refl }) in
-          ap (λ (o : Result). o.board) (sym e ∙ taken_same b m held f postable s.1.0 for same)
+          ap (λ (o : PostResult). o.board) (sym e ∙ taken_same b m held f postable s.1.0 for same)

@@ -21,9 +21,9 @@ use Rattle.outcomes.specs.Outcomes.{is_sized, is_refusal, is_answer, is_outcome}
 use Rattle.slots.specs.Slots.{content_of, is_conflict, is_held, is_zero, is_filled, same_bytes}
 use Rattle.slots.proofs.Padding.{padded_is}
 use Rattle.slots.proofs.Zeros.{both}
-use Rattle.board.specs.declared.Posted.TheVariants.{Taken}
+use Rattle.board.specs.declared.PostError.TheVariants.{NotABoard, Malformed}
 use Rattle.board.specs.Board.{SLOTS, board_size, in_order, is_board, held_on, board_of, empty_board, joined, placed}
-use Rattle.board.specs.Board.{board_refusal, placed_on, post_of}
+use Rattle.board.specs.Board.{board_refusal, taken_with, placed_on, post_of}
 use Rattle.arrival_laws.specs.Messages.{Postable}
 use Rattle.board.proofs.Boards.{zeros, slots_in, slots_next, slots_none}
 use Rattle.arrival_laws.proofs.Posting.{judged, taken_board, starts_board}
@@ -66,7 +66,7 @@ record Holding (b : List ℕ) (held : List (List ℕ)) : Type 0 where
   these : held_on b ≡ held
 
 record Next (b new : List ℕ) (after : List (List ℕ)) : Type 0 where
-  given : post_of b new ≡ record { posted = Taken; board = board_of after }
+  given : post_of b new ≡ taken_with (board_of after)
   holding : Holding (board_of after) after
 
 next_board : (b new : List ℕ) (held : List (List ℕ)) → Holding b held → are_bytes new ≡ true → Postable new
@@ -106,10 +106,10 @@ second =
     next_board (board_of (worked ∷ [])) another (worked ∷ []) first.holding refl (record { formed = refl; named = omega arith })
     (omega arith)
 
-pub worked_taken : (post_of empty_board worked ≡ record { posted = Taken; board = alone worked }) × (held_on (alone worked) ≡ worked ∷ [])
+pub worked_taken : (post_of empty_board worked ≡ taken_with (alone worked)) × (held_on (alone worked) ≡ worked ∷ [])
 worked_taken = rw (← board_alone worked (omega arith)) (first.given, first.holding.these)
 
-pub another_clashes : (post_of (alone worked) another ≡ record { posted = Taken; board = alone clash }) × (held_on (alone clash)
+pub another_clashes : (post_of (alone worked) another ≡ taken_with (alone clash)) × (held_on (alone clash)
     ≡ clash ∷ [])
 another_clashes = rw (← board_alone worked (omega arith), ← board_alone clash (omega arith)) (second.given, second.holding.these)
 
@@ -140,21 +140,21 @@ both_sizes =
     next_board (board_of (worked ∷ [])) void (worked ∷ []) first.holding refl (record { formed = refl; named = omega arith })
     (omega arith)
 
-pub void_taken : (post_of (alone worked) void ≡ record { posted = Taken; board = two worked void })
+pub void_taken : (post_of (alone worked) void ≡ taken_with (two worked void))
     × (held_on (two worked void) ≡ worked ∷ void ∷ [])
 void_taken =
     rw (← board_alone worked (omega arith), ← board_two worked void (omega arith) (omega arith))
     (both_sizes.given, both_sizes.holding.these)
 
-malformed : (b new : List ℕ) → is_board b ≡ true → is_outcome new ≡ false → post_of b new ≡ board_refusal 1 b
+malformed : (b new : List ℕ) → is_board b ≡ true → is_outcome new ≡ false → post_of b new ≡ board_refusal Malformed b
 unfolding post_of
 malformed b new board fault = rw (board, fault)
 
-pub short_12_refused : (b : List ℕ) → is_board b ≡ true → post_of b short_12 ≡ board_refusal 1 b
+pub short_12_refused : (b : List ℕ) → is_board b ≡ true → post_of b short_12 ≡ board_refusal Malformed b
 unfolding is_outcome is_refusal is_answer is_sized number_at
 short_12_refused b board = malformed b short_12 board refl
 
-pub long_11_refused : (b : List ℕ) → is_board b ≡ true → post_of b long_11 ≡ board_refusal 1 b
+pub long_11_refused : (b : List ℕ) → is_board b ≡ true → post_of b long_11 ≡ board_refusal Malformed b
 unfolding is_outcome is_refusal is_answer is_sized number_at
 long_11_refused b board = malformed b long_11 board refl
 
@@ -162,6 +162,6 @@ not_filled : in_order SLOTS 0 (alone short_12) ≡ false
 unfolding in_order is_zero is_filled is_held is_conflict is_outcome is_refusal is_answer is_sized content_of number_at alone
 not_filled = refl
 
-pub short_12_held : (new : List ℕ) → post_of (alone short_12) new ≡ board_refusal 0 (alone short_12)
+pub short_12_held : (new : List ℕ) → post_of (alone short_12) new ≡ board_refusal NotABoard (alone short_12)
 unfolding post_of is_board
 short_12_held new = rw (not_filled, and-false)

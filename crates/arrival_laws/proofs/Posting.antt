@@ -14,12 +14,14 @@ use native.Mathlib.Omega.{arith}
 use borrow.Author.Tests.{ltb-true, ltb-false, lt-ltb, le-ltb, eqb-true, eqb-false, ne_eqb}
 use lib.Dec.{ltb, eqb}
 use lib.ListN.{length}
+use Rattle.std.specs.Prelude.{Ok, Err}
 use Rattle.records.specs.Layout.{job_of, revision_of}
 use Rattle.little_endian.specs.Bytes.{AreBytes}
 use Rattle.outcomes.specs.Outcomes.{is_outcome}
-use Rattle.board.specs.declared.Posted.TheVariants.{Taken, Refused}
+use Rattle.board.specs.declared.PostError.{PostError}
+use Rattle.board.specs.declared.PostError.TheVariants.{NotABoard, Malformed, JobZero, NoSlotFree}
 use Rattle.board.specs.Board.{SLOTS, is_board, held_on, board_of, empty_board, joined, placed}
-use Rattle.board.specs.Board.{Result, board_refusal, post_of, placed_on, posted_number, none}
+use Rattle.board.specs.Board.{PostResult, board_refusal, taken_with, post_of, placed_on, none}
 use Rattle.arrival_laws.specs.Messages.{◌∈◌, AllBytes, Postable, post_all, NoneOf}
 use Rattle.slots.proofs.Held.{outcome_held}
 use Rattle.board.proofs.Boards.{board_held, held_board, empty_board_lem}
@@ -27,14 +29,14 @@ use Rattle.arrival_laws.proofs.Joining.{joining, joined_kept}
 use Rattle.arrival_laws.proofs.Placing.{placing, placed_rising, placed_again, placed_same, grown}
 
 -- What `post_of` gives if it takes the record.
-abbrev pub taking : List ℕ → List ℕ → Result
-taking b new = record { posted = Taken; board = board_of (placed (held_on b) new) }
+abbrev pub taking : List ℕ → List ℕ → PostResult
+taking b new = taken_with (board_of (placed (held_on b) new))
 
-pub data Posting (b new : List ℕ) : Result → Type 0 where
-  no_board : is_board b ≡ false → Posting b new (board_refusal 0 b)
-  malformed : is_board b ≡ true → is_outcome new ≡ false → Posting b new (board_refusal 1 b)
-  unnamed : is_board b ≡ true → is_outcome new ≡ true → job_of new ≡ 0 → Posting b new (board_refusal 2 b)
-  full : is_board b ≡ true → Postable new → SLOTS < length (placed (held_on b) new) → Posting b new (board_refusal 3 b)
+pub data Posting (b new : List ℕ) : PostResult → Type 0 where
+  no_board : is_board b ≡ false → Posting b new (board_refusal NotABoard b)
+  malformed : is_board b ≡ true → is_outcome new ≡ false → Posting b new (board_refusal Malformed b)
+  unnamed : is_board b ≡ true → is_outcome new ≡ true → job_of new ≡ 0 → Posting b new (board_refusal JobZero b)
+  full : is_board b ≡ true → Postable new → SLOTS < length (placed (held_on b) new) → Posting b new (board_refusal NoSlotFree b)
   taken : is_board b ≡ true → Postable new → length (placed (held_on b) new) ≤ SLOTS → Posting b new (taking b new)
 
 module _ (b new : List ℕ) where
@@ -47,18 +49,19 @@ module _ (b new : List ℕ) where
 
       by : (board : Bool) → is_board b ≡ board → (outcome : Bool) → is_outcome new ≡ outcome → (zero : Bool) → eqb (job_of new) 0 ≡ zero
           → (over : Bool) → ltb SLOTS (length (placed (held_on b) new)) ≡ over →
-          Posting b new (cond (not board) (board_refusal 0 b)
-          (cond (not outcome) (board_refusal 1 b) (cond zero (board_refusal 2 b) (cond over (board_refusal 3 b) (taking b new)))))
+          Posting b new (cond (not board) (board_refusal NotABoard b)
+          (cond (not outcome) (board_refusal Malformed b)
+          (cond zero (board_refusal JobZero b) (cond over (board_refusal NoSlotFree b) (taking b new)))))
       by false e outcome f zero g over h = no_board e
       by true e false f zero g over h = malformed e f
       by true e true f true g over h = unnamed e f (eqb-true (job_of new) 0 g)
       by true e true f false g true h = full e (counted f g) (ltb-true SLOTS (length (placed (held_on b) new)) h)
       by true e true f false g false h = taken e (counted f g) (ltb-false SLOTS (length (placed (held_on b) new)) h)
 
-  pub unchanged : (n : ℕ) → (post_of b new).posted ≡ Refused n → (post_of b new).board ≡ b
-  unchanged n e = by posting e
+  pub unchanged : (error : PostError) → (post_of b new).posted ≡ Err error → (post_of b new).board ≡ b
+  unchanged error e = by posting e
     where
-      by : {o : Result} → Posting b new o → o.posted ≡ Refused n → o.board ≡ b
+      by : {o : PostResult} → Posting b new o → o.posted ≡ Err error → o.board ≡ b
       by (no_board f) e = refl
       by (malformed f g) e = refl
       by (unnamed f g h) e = refl
@@ -80,7 +83,7 @@ module _ (b new : List ℕ) where
       ⊎_elim (λ n. (omega (arith, n.1, held.1.0), n.0)) (λ s. absurd (omega (arith, s.1, held.1.0)))
       (grown (placing (held_on b) new) held.0)
 
-  pub full_exactly : ((post_of b new).posted ≡ Refused 3)
+  pub full_exactly : ((post_of b new).posted ≡ Err NoSlotFree)
       ↔ ((is_board b ≡ true) × (Postable new × ((length (held_on b) ≡ SLOTS) × NoneOf (job_of new) (held_on b))))
   unfolding placed_on
   full_exactly = (
@@ -93,23 +96,23 @@ module _ (b new : List ℕ) where
         rw (judged h.0 h.1.0, lt-ltb SLOTS size over),
   )
     where
-      by : {o : Result} → Posting b new o → o.posted ≡ Refused 3
+      by : {o : PostResult} → Posting b new o → o.posted ≡ Err NoSlotFree
           → (is_board b ≡ true) × (Postable new × ((length (held_on b) ≡ SLOTS) × NoneOf (job_of new) (held_on b)))
-      by (no_board f) e = absurd (omega (arith, ap posted_number e))
-      by (malformed f g) e = absurd (omega (arith, ap posted_number e))
-      by (unnamed f g h) e = absurd (omega (arith, ap posted_number e))
+      by (no_board f) e = cc
+      by (malformed f g) e = cc
+      by (unnamed f g h) e = cc
       by (full f postable over) e = (f, (postable, no_room f over))
-      by (taken f postable room) e = absurd (omega (arith, ap posted_number e))
+      by (taken f postable room) e = cc
 
   -- A record that does not change what is held for its job is taken, and the board stays as it was.
   pub taken_same : (held : List ℕ) → is_board b ≡ true → Postable new → held ∈ held_on b → job_of held ≡ job_of new → joined held new ≡ held
-      → post_of b new ≡ record { posted = Taken; board = b }
+      → post_of b new ≡ taken_with b
   unfolding placed_on
   taken_same held f postable i for e =
       let on = board_held b f in
       let same = placed_same (placing (held_on b) new) on.0 i for e in
       judged f postable ∙ rw (same, le-ltb SLOTS (length (held_on b)) on.1.0)
-      (ap (λ l. record { posted = Taken; board = l }) (sym on.1.1))
+      (ap taken_with (sym on.1.1))
 
   module _ (bytes : AreBytes new) where
     -- If the record fits, the new bytes are a board, which holds the record placed among what was held before.
@@ -122,7 +125,7 @@ module _ (b new : List ℕ) where
     stays_board : is_board b ≡ true → is_board (post_of b new).board ≡ true
     stays_board f = by posting
       where
-        by : {o : Result} → Posting b new o → is_board o.board ≡ true
+        by : {o : PostResult} → Posting b new o → is_board o.board ≡ true
         by (no_board g) = f
         by (malformed g h) = f
         by (unnamed g h i) = f
@@ -134,7 +137,7 @@ module _ (b new : List ℕ) (bytes : AreBytes new) where
   unfolding placed_on
   both = by (posting b new) refl
     where
-      by : {o : Result} → Posting b new o → post_of b new ≡ o → post_of o.board new ≡ o
+      by : {o : PostResult} → Posting b new o → post_of b new ≡ o → post_of o.board new ≡ o
       by (no_board f) e = e
       by (malformed f g) e = e
       by (unnamed f g h) e = e
@@ -147,23 +150,23 @@ module _ (b new : List ℕ) (bytes : AreBytes new) where
           judged (board_of held) new on.0 postable ∙ rw (again, le-ltb SLOTS (length held) room)
 
   pub twice : (post_of (post_of b new).board new).board ≡ (post_of b new).board
-  twice = ap (λ (o : Result). o.board) both
+  twice = ap (λ (o : PostResult). o.board) both
 
   pub twice_result : (post_of (post_of b new).board new).posted ≡ (post_of b new).posted
-  twice_result = ap (λ (o : Result). o.posted) both
+  twice_result = ap (λ (o : PostResult). o.posted) both
 
 -- ---- a record that is older than what is held for its job, or the same
 
 module _ (b new held : List ℕ) (f : is_board b ≡ true) (postable : Postable new) (i : held ∈ held_on b) (for : job_of held ≡ job_of new)
     (how : (revision_of new < revision_of held) ⊎ (held ≡ new)) where
-  same : post_of b new ≡ record { posted = Taken; board = b }
+  same : post_of b new ≡ taken_with b
   same = taken_same b new held f postable i for (joined_kept (joining held new) how)
 
   pub older_or_same : (post_of b new).board ≡ b
-  older_or_same = ap (λ (o : Result). o.board) same
+  older_or_same = ap (λ (o : PostResult). o.board) same
 
-  pub older_or_same_taken : (post_of b new).posted ≡ Taken
-  older_or_same_taken = ap (λ (o : Result). o.posted) same
+  pub older_or_same_taken : (post_of b new).posted ≡ Ok tt
+  older_or_same_taken = ap (λ (o : PostResult). o.posted) same
 
 -- ---- any number of records for any number of jobs
 
@@ -179,12 +182,12 @@ pub always_board : (ms : List (List ℕ)) → AllBytes ms → is_board (post_all
 always_board ms all = from empty_board ms starts_board.0 all
 
 -- After any messages on the empty board, no record is refused with B0.
-pub never_b0 : (ms : List (List ℕ)) (m : List ℕ) → AllBytes ms → (post_of (post_all empty_board ms) m).posted ≡ Refused 0 → ⊥
+pub never_b0 : (ms : List (List ℕ)) (m : List ℕ) → AllBytes ms → (post_of (post_all empty_board ms) m).posted ≡ Err NotABoard → ⊥
 never_b0 ms m all e = by (posting (post_all empty_board ms) m) e
   where
-    by : {o : Result} → Posting (post_all empty_board ms) m o → o.posted ≡ Refused 0 → ⊥
+    by : {o : PostResult} → Posting (post_all empty_board ms) m o → o.posted ≡ Err NotABoard → ⊥
     by (no_board f) e = true≢false (sym (always_board ms all) ∙ f)
-    by (malformed f g) e = omega (arith, ap posted_number e)
-    by (unnamed f g h) e = omega (arith, ap posted_number e)
-    by (full f postable over) e = omega (arith, ap posted_number e)
-    by (taken f postable room) e = omega (arith, ap posted_number e)
+    by (malformed f g) e = cc
+    by (unnamed f g h) e = cc
+    by (full f postable over) e = cc
+    by (taken f postable room) e = cc

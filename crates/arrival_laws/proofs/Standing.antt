@@ -16,7 +16,7 @@ use native.Mathlib.Omega.{arith}
 use lib.ListN.{length}
 use Rattle.records.specs.Layout.{job_of}
 use Rattle.little_endian.specs.Bytes.{AreBytes}
-use Rattle.board.specs.Board.{SLOTS, is_board, held_on, empty_board, Result, post_of, none}
+use Rattle.board.specs.Board.{SLOTS, is_board, held_on, empty_board, PostResult, post_of, none}
 use Rattle.arrival_laws.specs.Messages.{post_all, ◌∈◌, SameMessages, AllBytes, Postable}
 use Rattle.arrival_laws.specs.Messages.{OverFewJobs, SomeOf, NoneOf, HeldFor, BoardAfter}
 use Rattle.board.proofs.Boards.{board_held}
@@ -54,7 +54,7 @@ module _ (all : List (List ℕ)) (bytes : AllBytes all) where
       passed : (Postable m → (length (held_on b) ≡ SLOTS) × NoneOf (job_of m) (held_on b)) → On (m ∷ seen) b
       passed f = record { board = on.board; keeps = keeps_refused m on.keeps f }
 
-      by : {o : Result} → Posting b m o → On (m ∷ seen) o.board
+      by : {o : PostResult} → Posting b m o → On (m ∷ seen) o.board
       by (no_board f) = never on.board f
       by (malformed f g) = passed (λ c. never c.formed g)
       by (unnamed f g e) = passed (λ c. absurd (omega (arith, c.named)))

@@ -10,7 +10,7 @@ use native.Mathlib.Nat.{zero-add}
 use borrow.Author.Tests.{eqb-true, eqb-false}
 use lib.Dec.{ltb, eqb}
 use lib.ListN.{length, take, drop, length-drop}
-use lib.Seq.{drop-drop, length-take-le, take_all}
+use lib.Seq.{drop-drop, length-take-le}
 use Rattle.records.specs.Layout.{LENGTH, answer_room, value_of, job_of}
 use Rattle.slots.specs.Slots.{content_of, is_filled, is_zero}
 use Rattle.little_endian.proofs.Same.{number_take}
@@ -74,10 +74,6 @@ checked (suc n) above b e =
 
 -- ---- one more slot
 
--- The slice from an index to the end is all bytes from that index on.
-pub rest_is : (from : ℕ) (b : List ℕ) → take (length b - from) (drop from b) ≡ drop from b
-rest_is from b = take_all (length b - from) (drop from b) (omega (arith, length-drop from b))
-
 left : (n i : ℕ) → i < n → n - i ≡ suc (n - (i + 1))
 left n i h = omega arith
 
@@ -115,12 +111,12 @@ module _ (test : List ℕ → Bool) (n : ℕ) (b : List ℕ) where
   pub count_next : (i : ℕ) → i < n → test (drop (i * answer_room) b) ≡ true → Counted i → Counted (i + 1)
   count_next i h e c = (omega arith, omega (arith, counted i true h e, c.1))
 
-  pub count_ends : (i : ℕ) → i < n → test (drop (i * answer_room) b) ≡ false → Counted i → (i ≤ n) × (i ≡ slots_while test n b)
-  count_ends i h e c = (omega arith, omega (arith, counted i false h e, c.1))
+  pub count_ends : (i : ℕ) → i < n → test (drop (i * answer_room) b) ≡ false → Counted i → i ≡ slots_while test n b
+  count_ends i h e c = omega (arith, counted i false h e, c.1)
 
-  pub count_whole : (i : ℕ) → n ≤ i → Counted i → (i ≤ n) × (i ≡ slots_while test n b)
+  pub count_whole : (i : ℕ) → n ≤ i → Counted i → n ≡ slots_while test n b
   unfolding slots_while
   count_whole i h c =
       let all : n - i ≡ 0 = omega (arith, c.0) in
       let none : slots_while test (n - i) (drop (i * answer_room) b) ≡ 0 = rw all refl in
-      (c.0, omega (arith, none, c.1))
+      omega (arith, c.0, none, c.1)

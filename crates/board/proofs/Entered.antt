@@ -17,13 +17,14 @@ use Rattle.records.specs.Layout.{Field, LENGTH, JOB, answer_room, value_of, job_
 use Rattle.slots.specs.Slots.{padded, slot_of, content_of, is_held}
 use Rattle.little_endian.proofs.Same.{number_take}
 use Rattle.slots.proofs.Padding.{padded_length}
-use Rattle.slots.proofs.Zeros.{both, zeros_zero, zero_number}
+use Rattle.slots.proofs.Zeros.{zeros_zero, zero_number}
 use Rattle.slots.proofs.Held.{slot_named, slot_job, content_back}
 use Rattle.board.specs.declared.moves.Route.{Route}
 use Rattle.board.specs.declared.moves.Route.TheVariants.{Joins, Enters, NoneFree}
-use Rattle.board.specs.declared.Posted.{Posted}
-use Rattle.board.specs.declared.Posted.TheVariants.{Taken, Refused}
-use Rattle.board.specs.Board.{SLOTS, board_size, in_order, is_board, held_on, slots_bytes, board_of, joined, placed, placed_on}
+use Rattle.board.specs.declared.PostError.{PostError}
+use Rattle.board.specs.declared.PostError.TheVariants.{NoSlotFree}
+use Rattle.std.specs.Prelude.{Result, Ok, Err}
+use Rattle.board.specs.Board.{SLOTS, board_size, is_board, held_on, slots_bytes, board_of, joined, placed, placed_on}
 use Rattle.board.specs.Board.{HeldRising, next}
 use Rattle.board.specs.Internals.{slots_while, slots_before_free, slots_below, route_of, moved_up}
 use Rattle.board.proofs.Boards.{one_more, zeros, padded_append, slots_in, slots_next, slots_none, board_held}
@@ -226,7 +227,7 @@ abbrev NotThere : List ℕ → List ℕ → ℕ → Type 0
 NotThere b new i = (slots_before_free SLOTS b ≤ i) ⊎ (job_of (drop (i * answer_room) b) ≡ job_of new → ⊥)
 
 -- The returned value and the bytes after the call are those that `placed_on` gives.
-abbrev pub Gives : List ℕ → List ℕ → Posted → List ℕ → Type 0
+abbrev pub Gives : List ℕ → List ℕ → Result Unit PostError → List ℕ → Type 0
 Gives b new posted after = (posted ≡ (placed_on b new).posted) × (after ≡ (placed_on b new).board)
 
 module _ (b new : List ℕ) (board : is_board b ≡ true) where
@@ -257,7 +258,7 @@ module _ (b new : List ℕ) (board : is_board b ≡ true) where
   pre_size : length pre ≡ place
   pre_size = length-take-le place cs (below_le cs (job_of new))
 
-  taken : (held : List (List ℕ)) → placed cs new ≡ held → length held ≤ SLOTS → Gives b new Taken (board_of held)
+  taken : (held : List (List ℕ)) → placed cs new ≡ held → length held ≤ SLOTS → Gives b new (Ok tt) (board_of held)
   unfolding placed_on
   taken held e h = rw (e, le-ltb SLOTS (length held) h) (refl, refl)
 
@@ -303,7 +304,7 @@ module _ (b new : List ℕ) (board : is_board b ≡ true) where
     pub record JoinsHere : Type 0 where
       pub ready : mid_of (i * answer_room) answer_room b ≡ slot_of (content_of (mid_of (i * answer_room) answer_room b))
       pub done : (s : List ℕ) → s ≡ slot_of (joined (content_of (mid_of (i * answer_room) answer_room b)) new)
-          → Gives b new Taken (put_mid (i * answer_room) answer_room b s)
+          → Gives b new (Ok tt) (put_mid (i * answer_room) answer_room b s)
 
     enters_slot : i < slots_before_free SLOTS b → job_of (drop (i * answer_room) b) ≡ job_of new → JoinsHere
     unfolding settled
@@ -355,13 +356,13 @@ module _ (b new : List ℕ) (board : is_board b ≡ true) where
     one_held_more : length (pre ++ (new ∷ drop place cs)) ≡ suc (length cs)
     one_held_more = length-append pre (new ∷ drop place cs) ∙ omega (arith, pre_size, post_size, below_le cs (job_of new))
 
-    enters_none : NotThere b new i → slots_before_free SLOTS b ≡ SLOTS → Gives b new (Refused 3) b
+    enters_none : NotThere b new i → slots_before_free SLOTS b ≡ SLOTS → Gives b new (Err NoSlotFree) b
     unfolding placed_on
     enters_none h full =
         rw (whole h, lt-ltb SLOTS (length (pre ++ (new ∷ drop place cs))) (omega (arith, one_held_more, filled_is, full))) (refl, refl)
 
     enters_new : NotThere b new i → slots_before_free SLOTS b < SLOTS
-        → Gives b new Taken (put_mid (i * answer_room) answer_room (moved_up (i * answer_room) (slots_before_free SLOTS b * answer_room) b)
+        → Gives b new (Ok tt) (put_mid (i * answer_room) answer_room (moved_up (i * answer_room) (slots_before_free SLOTS b * answer_room) b)
         (slot_of new))
     unfolding board_of slots_in
     enters_new h room =
@@ -390,27 +391,23 @@ module _ (b new : List ℕ) (board : is_board b ≡ true) where
         times : (x y : ℕ) → (x + y) * answer_room ≡ x * answer_room + y * answer_room
         times x y = omega arith
 
-pub board_size_lem : (b : List ℕ) → is_board b ≡ true → length b ≡ board_size
-unfolding is_board
-board_size_lem b h = eqb-true (length b) board_size (both (eqb (length b) board_size) (in_order SLOTS 0 b) h).0
-
 -- What `place` needs to know about each route: its slices are within the board, a slot that is joined meets the
 -- precondition of `join`, and the steps of the route give what `placed_on` says.
 pub record JoinsAt (b new : List ℕ) (from : ℕ) : Type 0 where
   pub fits : from + answer_room ≤ board_size
   pub ready : mid_of from answer_room b ≡ slot_of (content_of (mid_of from answer_room b))
   pub done : (s : List ℕ) → s ≡ slot_of (joined (content_of (mid_of from answer_room b)) new)
-      → Gives b new Taken (put_mid from answer_room b s)
+      → Gives b new (Ok tt) (put_mid from answer_room b s)
 
 pub record EntersAt (b new : List ℕ) (from end : ℕ) : Type 0 where
   pub rising : from ≤ end
   pub fits : end + answer_room ≤ board_size
-  pub done : Gives b new Taken (put_mid from answer_room (moved_up from end b) (slot_of new))
+  pub done : Gives b new (Ok tt) (put_mid from answer_room (moved_up from end b) (slot_of new))
 
 abbrev pub Goes : List ℕ → List ℕ → Route → Type 0
 Goes b new (Joins from) = JoinsAt b new from
 Goes b new (Enters from end) = EntersAt b new from end
-Goes b new NoneFree = Gives b new (Refused 3) b
+Goes b new NoneFree = Gives b new (Err NoSlotFree) b
 
 pub goes : (b new : List ℕ) → is_board b ≡ true → Goes b new (route_of b (job_of new))
 unfolding route_of

@@ -1,4 +1,3 @@
 pub mod Boards
 mod Checked
-mod Moved
 mod Entered

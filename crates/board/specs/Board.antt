@@ -1,12 +1,12 @@
 -- A board of outcomes, one for each job, and what it becomes when a record is posted (02, A1). Definitions only.
 use Rattle.std.specs.Prelude.{◌≡◌, ℕ, zero, suc, ◌*◌, ◌<◌, Bool, true, cond, not, ◌&&◌, ◌||◌, List, [], ◌∷◌, ◌++◌, eqb, ltb, length}
-use Rattle.std.specs.Prelude.{take, drop, replicate}
+use Rattle.std.specs.Prelude.{take, drop, replicate, Result, Ok, Err}
 use Rattle.records.specs.Layout.{answer_room, job_of, revision_of}
 use Rattle.records.specs.Records.{conflict_bytes}
 use Rattle.outcomes.specs.Outcomes.{is_outcome}
 use Rattle.slots.specs.Slots.{padded, slot_of, content_of, is_held, is_zero, is_filled, same_bytes}
-use Rattle.board.specs.declared.Posted.{Posted}
-use Rattle.board.specs.declared.Posted.TheVariants.{Taken, Refused}
+use Rattle.board.specs.declared.PostError.{PostError}
+use Rattle.board.specs.declared.PostError.TheVariants.{NotABoard, Malformed, JobZero, NoSlotFree}
 
 -- ---- the bytes of a board
 
@@ -77,29 +77,40 @@ placed (held ∷ rest) new =
     (cond (eqb (job_of held) (job_of new)) (joined held new ∷ rest) (new ∷ held ∷ rest))
 
 -- The result of a call: the value that it returns, and the bytes of the board after it.
-pub record Result : Type 0 where
-  pub posted : Posted
+pub record PostResult : Type 0 where
+  pub posted : Result Unit PostError
   pub board : List ℕ
 
--- The result of a refusal, B0 to B3, given by its number. The board stays unchanged.
-abbrev pub board_refusal : ℕ → List ℕ → Result
-board_refusal number b = record { posted = Refused number; board = b }
+-- The result of a refusal. The board stays unchanged.
+abbrev pub board_refusal : PostError → List ℕ → PostResult
+board_refusal error b = record { posted = Err error; board = b }
+
+-- The result of a record that is taken, with the board after it.
+abbrev pub taken_with : List ℕ → PostResult
+taken_with b = record { posted = Ok tt; board = b }
 
 -- The result of posting a well-formed record, whose job is not 0, on a board. B3: no slot is free for a new job.
-unfoldable pub placed_on : List ℕ → List ℕ → Result
+unfoldable pub placed_on : List ℕ → List ℕ → PostResult
 placed_on b new =
     let after = placed (held_on b) new in
-    cond (ltb SLOTS (length after)) (board_refusal 3 b) (record { posted = Taken; board = board_of after })
+    cond (ltb SLOTS (length after)) (board_refusal NoSlotFree b) (taken_with (board_of after))
 
 -- The result of posting any bytes as a record on any bytes as a board. The refusals are tested in this order. B0: not a
 -- board. B1: a malformed record. B2: job 0. B3: see `placed_on`.
-unfoldable pub post_of : List ℕ → List ℕ → Result
+unfoldable pub post_of : List ℕ → List ℕ → PostResult
 post_of b new =
-    cond (not (is_board b)) (board_refusal 0 b)
-    (cond (not (is_outcome new)) (board_refusal 1 b)
-    (cond (eqb (job_of new) 0) (board_refusal 2 b) (placed_on b new)))
+    cond (not (is_board b)) (board_refusal NotABoard b)
+    (cond (not (is_outcome new)) (board_refusal Malformed b)
+    (cond (eqb (job_of new) 0) (board_refusal JobZero b) (placed_on b new)))
+
+-- The number of a refusal: 0 to 3 for B0 to B3.
+abbrev pub error_number : PostError → ℕ
+error_number NotABoard = 0
+error_number Malformed = 1
+error_number JobZero = 2
+error_number NoSlotFree = 3
 
 -- The returned value as one number: the number of the refusal, or 255 if the record was taken.
-abbrev pub posted_number : Posted → ℕ
-posted_number Taken = 255
-posted_number (Refused n) = n
+abbrev pub posted_number : Result Unit PostError → ℕ
+posted_number (Ok taken) = 255
+posted_number (Err error) = error_number error

@@ -1,13 +1,12 @@
 // Puts a record into a board. If its job has a slot, that slot is changed. Otherwise the slots of later jobs are moved
 // up, and the record gets a new slot.
-ghost use Rattle.std.specs.Prelude.{◌≡◌, true, ◌+◌, ◌*◌, ◌≤◌, length, drop};
-ghost use Rattle.records.specs.Layout.{answer_room, job_of};
+ghost use Rattle.std.specs.Prelude.{◌≡◌, true, ◌≤◌};
 ghost use Rattle.slots.specs.Slots.{slot_of, content_of};
-ghost use Rattle.board.specs.Board.{SLOTS, board_size, is_board, joined, placed_on};
-ghost use Rattle.board.specs.Internals.{slots_below, route_of, changed, moved_up};
+ghost use Rattle.board.specs.Board.{SLOTS, is_board, joined, placed_on};
+ghost use Rattle.board.specs.Internals.{slots_below, route_of, changed};
 
-use crate::checks::filled_slots;
-use crate::{Posted, SLOTS};
+use crate::checks::{filled_slots, slots_from};
+use crate::{BOARD_SIZE, PostError, SLOTS};
 use records::{ANSWER_ROOM, job_of, revision_of};
 
 // How a record is put into a board.
@@ -24,7 +23,7 @@ enum Route {
 
 // Puts a record into a board, or refuses it with B3 if no slot is free for a new job. The caller has checked that the
 // record is well formed and that its job is not 0.
-pub(crate) fn place(board: &mut [u8], message: &[u8]) -> Posted
+pub(crate) fn place(board: &mut [u8; BOARD_SIZE], message: &[u8]) -> Result<(), PostError>
     requires { is_board board.old ≡ true }
     ensures result { result ≡ (placed_on board.old message.now).posted }
     ensures board { board.new ≡ (placed_on board.old message.now).board }
@@ -33,26 +32,25 @@ pub(crate) fn place(board: &mut [u8], message: &[u8]) -> Posted
         Route::Joins(from) => {
             let to = from + ANSWER_ROOM;
             join(&mut board[from..to], message);
-            Posted::Taken
+            Ok(())
         }
         Route::Enters(from, end) => {
             let to = from + ANSWER_ROOM;
-            move_up(board, from, end);
+            board.copy_within(from..end, to);
             slots::fill(&mut board[from..to], message);
-            Posted::Taken
+            Ok(())
         }
-        Route::NoneFree => Posted::Refused(3),
+        Route::NoneFree => Err(PostError::NoSlotFree),
     }
 }
 
-fn route_of(board: &[u8], job: u32) -> Route
-    requires { length board.now ≡ board_size }
+fn route_of(board: &[u8; BOARD_SIZE], job: u32) -> Route
     ensures { result ≡ route_of board.now job }
 {
     let filled = filled_slots(board);
     let i = slots_below(board, filled, job);
     let from = i * ANSWER_ROOM;
-    if (i < filled) & (job_in(board, i) == job) {
+    if (i < filled) & (job_of(slots_from(board, i)) == job) {
         return Route::Joins(from);
     }
     if filled == SLOTS {
@@ -61,26 +59,20 @@ fn route_of(board: &[u8], job: u32) -> Route
     Route::Enters(from, filled * ANSWER_ROOM)
 }
 
-// Returns how many of the first n slots come before the first one whose job is not below the given job.
-fn slots_below(board: &[u8], n: usize, job: u32) -> usize
-    requires { (length board.now ≡ board_size) × (n ≤ SLOTS) }
+// Returns how many of the first n slots come before the first one whose job is not below the given job. `filled_slots` is
+// the same loop with another test. One function that takes the test as a closure would need a contract on what the
+// closure computes, which is longer than this loop.
+fn slots_below(board: &[u8; BOARD_SIZE], n: usize, job: u32) -> usize
+    requires { n ≤ SLOTS }
     ensures most { result ≤ n }
     ensures result { result ≡ slots_below n job board.now }
 {
-    let mut i: usize = 0;
-    while i < n && job_in(board, i) < job {
-        i += 1;
+    for i in 0..n {
+        if job <= job_of(slots_from(board, i)) {
+            return i;
+        }
     }
-    i
-}
-
-// Returns the job of the slot with index i.
-fn job_in(board: &[u8], i: usize) -> u32
-    requires { (length board.now ≡ board_size) × (i ≤ SLOTS) }
-    ensures { result ≡ job_of (drop (i * answer_room) board.now) }
-{
-    let from = i * ANSWER_ROOM;
-    job_of(&board[from..])
+    n
 }
 
 // The effect of a record on the slot of its job: none, the record replaces the content, or a conflict replaces it.
@@ -125,17 +117,5 @@ fn join(slot: &mut [u8], message: &[u8])
         Change::Conflict => {
             slots::fill_conflict(slot, job_of(message), revision_of(message));
         }
-    }
-}
-
-// Moves the bytes `from..to` of the board up by one slot.
-fn move_up(board: &mut [u8], from: usize, to: usize)
-    requires { (from ≤ to) × (to + answer_room ≤ length board.old) }
-    ensures { board.new ≡ moved_up from to board.old }
-{
-    let mut i = to;
-    while from < i {
-        i -= 1;
-        board[i + ANSWER_ROOM] = board[i];
     }
 }

@@ -5,7 +5,7 @@
 ghost use Rattle.std.specs.Prelude.{◌≡◌};
 ghost use Rattle.board.specs.Board.{posted_number, post_of};
 
-use board::{Posted, post};
+use board::post;
 
 // Posts a record as `post` does. Returns the number of the refusal, 0 to 3, or 255 if the record was taken.
 #[unsafe(no_mangle)]
@@ -14,7 +14,7 @@ pub extern "C" fn lambert_post(board: &mut [u8], message: &[u8]) -> u8
     ensures board { board.new ≡ (post_of board.old message.now).board }
 {
     match post(board, message) {
-        Posted::Taken => 255,
-        Posted::Refused(number) => number,
+        Ok(()) => 255,
+        Err(error) => u8::from(error),
     }
 }

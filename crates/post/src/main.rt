@@ -10,7 +10,7 @@ ghost use Rattle.record_stream.specs.Streams.{longest_rest};
 ghost use Rattle.post.specs.declared.Next.TheVariants.{Failed};
 ghost use Rattle.post.specs.Posting.{AfterRest, AfterHead, AfterNext, Postings};
 
-use board::{BOARD_SIZE, Posted};
+use board::{BOARD_SIZE, PostError};
 use record_stream::{REASON_ROOM, Start};
 use records::{ANSWER_ROOM, LENGTH_SIZE};
 use standard_input::Got;
@@ -140,10 +140,9 @@ fn cannot_read(errors: &impl Print, error: io::Error) -> Next
     Next::Failed
 }
 
-fn tell(errors: &impl Print, posted: Posted, place: u64) {
-    match posted {
-        Posted::Taken => {}
-        Posted::Refused(number) => tell_refusal(errors, number, place),
+fn tell(errors: &impl Print, posted: Result<(), PostError>, place: u64) {
+    if let Err(error) = posted {
+        tell_refusal(errors, u8::from(error), place);
     }
 }
 

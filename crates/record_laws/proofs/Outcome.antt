@@ -12,8 +12,9 @@ use Rattle.records.specs.Layout.{job_of, revision_of}
 use Rattle.records.specs.Records.{refusal_with}
 use Rattle.outcomes.specs.Outcomes.{is_outcome}
 use Rattle.outcomes.proofs.Written.{refusal_outcome, answer_outcome}
-use Rattle.board.specs.Board.{SLOTS, is_board, held_on, board_of, placed, board_refusal, placed_on, post_of}
-use Rattle.board.specs.declared.Posted.TheVariants.{Taken, Refused}
+use Rattle.board.specs.Board.{SLOTS, is_board, held_on, board_of, placed, board_refusal, taken_with, placed_on, post_of}
+use Rattle.board.specs.declared.PostError.TheVariants.{NotABoard, Malformed, JobZero, NoSlotFree}
+use Rattle.std.specs.Prelude.{Err}
 use Rattle.record_laws.specs.RecordForm.{RecordForm, malformed_question, refusal, void_refusal, answer}
 use Rattle.record_laws.proofs.Forms.{record_form}
 
@@ -30,25 +31,21 @@ record_outcome s = form_outcome s (record_form s)
 
 -- ---- posting on any bytes, whether they are a board or not
 
--- A call has four results other than B1: not a board (B0), job 0 (B2), no free slot (B3), and taken. A refusal with
--- another number is not B1 (`other_number`).
-other_number : {P : Type 0} (n : ℕ) → (n ≡ 1 → ⊥) → Refused n ≡ Refused 1 → P
-other_number n other e = let z : n ≡ 1 = cc e in absurd (other z)
-
 module _ (b new : List ℕ) where
+  -- A call has four results other than B1: not a board (B0), job 0 (B2), no free slot (B3), and taken.
   not_b1 : (board formed : Bool) → formed ≡ true → (zero full : Bool) →
-      (cond (not board) (board_refusal 0 b)
-      (cond (not formed) (board_refusal 1 b)
-      (cond zero (board_refusal 2 b)
-      (cond full (board_refusal 3 b) (record { posted = Taken; board = board_of (placed (held_on b) new) }))))).posted
-      ≡ Refused 1 → ⊥
-  not_b1 false formed f zero full e = other_number 0 (λ z. omega (arith, z)) e
-  not_b1 true true f true full e = other_number 2 (λ z. omega (arith, z)) e
-  not_b1 true true f false true e = other_number 3 (λ z. omega (arith, z)) e
-  not_b1 true true f false false e = let z : ◌≡◌ {A = ℕ} 0 1 = cc e in omega (arith, z)
-  not_b1 true false f zero full e = let z : ◌≡◌ {A = ℕ} 0 1 = cc f in omega (arith, z)
+      (cond (not board) (board_refusal NotABoard b)
+      (cond (not formed) (board_refusal Malformed b)
+      (cond zero (board_refusal JobZero b)
+      (cond full (board_refusal NoSlotFree b) (taken_with (board_of (placed (held_on b) new))))))).posted
+      ≡ Err Malformed → ⊥
+  not_b1 false formed f zero full e = cc
+  not_b1 true true f true full e = cc
+  not_b1 true true f false true e = cc
+  not_b1 true true f false false e = cc
+  not_b1 true false f zero full e = cc
 
-pub never_malformed : (b s : List ℕ) → (post_of b (record_of s)).posted ≡ Refused 1 → ⊥
+pub never_malformed : (b s : List ℕ) → (post_of b (record_of s)).posted ≡ Err Malformed → ⊥
 unfolding post_of placed_on
 never_malformed b s e =
     let new = record_of s in

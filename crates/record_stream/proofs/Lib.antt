@@ -1,3 +1,2 @@
-mod Words
 pub mod Starts
 pub mod Streams

@@ -30,7 +30,7 @@ pub enum Start {
 pub fn start_of(head: &[u8]) -> Start
     ensures { result ≡ start_of head.now }
 {
-    if head.len() == 0 {
+    if head.is_empty() {
         return Start::End;
     }
     if head.len() < LENGTH_SIZE {

@@ -7,7 +7,8 @@ ghost use Rattle.record_stream.specs.Reasons.{reason_of, length_reason, reason_r
 pub const REASON_ROOM: usize = 93;
 
 // Writes the reason for a refusal, B0 to B3 given by its number, to the start of a buffer, with zeros after it, and
-// returns the size of the text. Any other number has an empty text.
+// returns the size of the text. Any other number has an empty text. The refusal is a number here and no `PostError`,
+// because the contract covers every number.
 pub fn reason_of(number: u8, out: &mut [u8; REASON_ROOM]) -> usize
     ensures size { result ≡ length (reason_of number) }
     ensures buffer { out.new ≡ padded reason_room (reason_of number) }

@@ -2,5 +2,3 @@ pub mod Padding
 pub mod Zeros
 pub mod Held
 pub mod Conflicts
-mod Comparing
-mod Filling

@@ -1,12 +1,14 @@
 -- What the tests on bytes mean: `is_zero` is true exactly for lists of zeros (`zero_is`, `zeros_zero`), and `same_bytes`
 -- is true exactly for equal lists (`same_is`, `same_self`). `both` splits a conjunction of two tests.
 use mathlib.Core.Path.{◌≡◌, refl, sym, ap, ◌∙◌}
-use mathlib.Core.Bool.{Bool, true, false, ◌&&◌, and_assoc, true≢false}
+use mathlib.Core.Bool.{Bool, true, false, ◌&&◌, true≢false}
 use mathlib.Core.List.{List, [], ◌∷◌, ◌++◌}
 use Prim.Native.Nat.{ℕ, zero, suc, ◌+◌}
-use borrow.Author.Tests.{eqb-true, eq-eqb}
+use borrow.Author.Tests.{eqb-true}
 use lib.Dec.{eqb}
 use lib.ListN.{length, get_or, replicate}
+use Rattle.std.proofs.lemmas.List.Folds.{list_all-append}
+use Rattle.std.proofs.lemmas.Slice.Eq.{bytes_eq-Decides}
 use Rattle.little_endian.specs.Bytes.{number_at}
 use Rattle.slots.specs.Slots.{is_zero, same_bytes}
 
@@ -30,8 +32,7 @@ zeros_zero (suc n) = zeros_zero n
 
 pub zero_append : (a b : List ℕ) → is_zero (a ++ b) ≡ is_zero a && is_zero b
 unfolding is_zero
-zero_append [] b = refl
-zero_append (x ∷ a) b = ap (λ (t : Bool). eqb x 0 && t) (zero_append a b) ∙ sym (and_assoc (eqb x 0) (is_zero a) (is_zero b))
+zero_append a b = list_all-append (λ x. eqb x 0) a b
 
 zero_at : (s : List ℕ) → is_zero s ≡ true → (i : ℕ) → get_or s i 0 ≡ 0
 unfolding is_zero
@@ -48,17 +49,11 @@ zero_number s e (suc w) at = rw (zero_at s e at, zero_number s e w (at + 1))
 
 pub same_is : (a b : List ℕ) → same_bytes a b ≡ true → a ≡ b
 unfolding same_bytes
-same_is [] [] e = refl
-same_is [] (y ∷ b) e = cc
-same_is (x ∷ a) [] e = cc
-same_is (x ∷ a) (y ∷ b) e =
-    let p : (eqb x y ≡ true) × (same_bytes a b ≡ true) = both (eqb x y) (same_bytes a b) e in
-    cc (eqb-true x y p.0, same_is a b p.1)
+same_is a b e = (bytes_eq-Decides a b).0 e
 
 pub same_self : (a : List ℕ) → same_bytes a a ≡ true
 unfolding same_bytes
-same_self [] = refl
-same_self (x ∷ a) = rw (eq-eqb x x refl, same_self a)
+same_self a = (bytes_eq-Decides a a).1 refl
 
 pub differ_is : (a b : List ℕ) → same_bytes a b ≡ false → a ≡ b → ⊥
 differ_is a b e q = true≢false (sym (same_self a) ∙ ap (same_bytes a) q ∙ e)

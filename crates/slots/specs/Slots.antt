@@ -1,5 +1,7 @@
 -- The slots of a board: what a slot may hold, and its bytes (02, A1). Definitions only.
-use Rattle.std.specs.Prelude.{ℕ, Bool, true, false, ◌&&◌, ◌||◌, List, [], ◌∷◌, ◌++◌, eqb, take, drop, replicate}
+use Rattle.std.specs.Prelude.{ℕ, Bool, ◌&&◌, ◌||◌, List, ◌++◌, eqb, take, drop, replicate}
+use Rattle.std.specs.List.{list_all}
+use Rattle.std.specs.Str.{bytes_eq}
 use Rattle.records.specs.Layout.{answer_room, conflict_kind, conflict_size, kind_of, size_of}
 use Rattle.outcomes.specs.Outcomes.{is_sized, is_outcome}
 
@@ -25,8 +27,7 @@ is_held s = is_outcome s || is_conflict s
 
 -- Whether all bytes are 0.
 unfoldable pub is_zero : List ℕ → Bool
-is_zero [] = true
-is_zero (b ∷ bs) = eqb b 0 && is_zero bs
+is_zero s = list_all (λ b. eqb b 0) s
 
 -- Whether a slot is filled: its content is what a slot may hold, and all bytes after the content are 0.
 unfoldable pub is_filled : List ℕ → Bool
@@ -34,7 +35,4 @@ is_filled s = is_held (content_of s) && is_zero (drop (size_of s) s)
 
 -- Whether two lists of bytes are equal.
 unfoldable pub same_bytes : List ℕ → List ℕ → Bool
-same_bytes [] [] = true
-same_bytes [] (y ∷ ys) = false
-same_bytes (x ∷ xs) [] = false
-same_bytes (x ∷ xs) (y ∷ ys) = eqb x y && same_bytes xs ys
+same_bytes a b = bytes_eq a b

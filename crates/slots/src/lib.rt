@@ -8,7 +8,6 @@ ghost use Rattle.slots.specs.Slots.{padded, is_conflict, is_held, is_filled};
 
 mod bytes;
 
-use bytes::byte_at;
 pub use bytes::{is_zero, same_bytes};
 use records::{CONFLICT_KIND, CONFLICT_SIZE, kind_of, size_of, write_conflict};
 
@@ -24,8 +23,7 @@ pub fn is_filled(slot: &[u8]) -> bool
 pub fn content_size(slot: &[u8]) -> usize
     ensures { result ≡ min (size_of slot.now) (length slot.now) }
 {
-    let size = size_of(slot);
-    if size < slot.len() { size } else { slot.len() }
+    size_of(slot).min(slot.len())
 }
 
 fn is_held(s: &[u8]) -> bool
@@ -44,11 +42,9 @@ fn is_conflict(s: &[u8]) -> bool
 pub fn fill(slot: &mut [u8], bytes: &[u8])
     ensures { slot.new ≡ padded (length slot.old) bytes.now }
 {
-    let mut i = 0;
-    while i < slot.len() {
-        slot[i] = byte_at(bytes, i);
-        i += 1;
-    }
+    let size = bytes.len().min(slot.len());
+    slot[..size].copy_from_slice(&bytes[..size]);
+    slot[size..].fill(0);
 }
 
 // Fills a slot, as `fill` does, with the conflict of the given job at the given revision.

@@ -9,7 +9,7 @@
 
 ghost use Rattle.std.specs.Prelude.{◌≤◌};
 
-use board::{BOARD_SIZE, Posted, SLOTS};
+use board::{BOARD_SIZE, PostError, SLOTS};
 use little_endian::{u16_at, u32_at};
 use std::io;
 use std::io::Read;
@@ -134,10 +134,10 @@ fn read_and_post(
     print_posted(rt, board::post(&mut room[..lent], &bytes[..cut]))
 }
 
-fn print_posted(rt: &impl Print, posted: Posted) -> io::Result<()> {
+fn print_posted(rt: &impl Print, posted: Result<(), PostError>) -> io::Result<()> {
     match posted {
-        Posted::Taken => print!(rt; "T"),
-        Posted::Refused(number) => print!(rt; "{number}"),
+        Ok(()) => print!(rt; "T"),
+        Err(error) => print!(rt; "{}", u8::from(error)),
     }
 }
 

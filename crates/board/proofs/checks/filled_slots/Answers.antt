@@ -1,11 +1,12 @@
 -- `filled_slots` meets its contract. The loop invariant is `Counted`: n slots passed the test so far, and n plus the
--- count over the remaining slots is the whole count. The measure is the number of slots left.
+-- count over the remaining slots is the whole count.
 use Prim.Native.Nat.{ℕ}
 use mathlib.Core.Path.{◌∙◌, sym, ap}
 use mathlib.Core.Bool.{not}
 use native.Mathlib.Omega.{arith}
 use lib.Dec.{eqb}
 use borrow.Author.Tests.{eq-eqb, ne_eqb}
+use Rattle.records.specs.Layout.{LENGTH, value_of}
 use Rattle.board.specs.Board.{SLOTS}
 use Rattle.board.specs.Internals.{has_length}
 use Rattle.board.proofs.Checked.{count_starts, count_next, count_ends, count_whole}
@@ -14,29 +15,17 @@ use Rattle.board.proofs.checks.filled_slots.Goals as goal
 pub loop-n-init : goal.loop-n-init
 loop-n-init c = count_starts has_length SLOTS c.args.board.now
 
-pub length_in-requires : goal.length_in-requires
-length_in-requires c = (omega arith, omega arith)
-
 pub loop-n-preserved : goal.loop-n-preserved
 loop-n-preserved c =
-    let l = c.loop-n in
-    let b = c.args.board.now in
-    let read = c.length_in in
-    let named = ap (λ (x : ℕ). not (eqb x 0)) (sym read.ensures) ∙ ap not (ne_eqb read.result 0 c.if-length_in-ne0.true) in
-    count_next has_length SLOTS b l.n (omega arith) named l.invariant
+    let read = c.length_of.ensures ∙ ap (value_of LENGTH) c.slots_from.ensures in
+    let named = ap (λ (x : ℕ). not (eqb x 0)) (sym read) ∙ ap not (ne_eqb c.length_of.result 0 c.if-length_of-eq0.false) in
+    count_next has_length SLOTS c.args.board.now c.loop-n.n (omega arith) named c.loop-n.invariant
 
-pub returns-else-length_in-ne0 : goal.returns-else-length_in-ne0
-returns-else-length_in-ne0 c =
-    let l = c.loop-n in
-    let b = c.args.board.now in
-    let read = c.length_in in
-    let free = ap (λ (x : ℕ). not (eqb x 0)) (sym read.ensures) ∙ ap not (eq-eqb read.result 0 c.if-length_in-ne0.false) in
-    let both = count_ends has_length SLOTS b l.n (omega arith) free l.invariant in
-    record { most = both.0; result = both.1 }
+pub returns-then-length_of-eq0-clause-result : goal.returns-then-length_of-eq0-clause-result
+returns-then-length_of-eq0-clause-result c =
+    let read = c.length_of.ensures ∙ ap (value_of LENGTH) c.slots_from.ensures in
+    let free = ap (λ (x : ℕ). not (eqb x 0)) (sym read) ∙ ap not (eq-eqb c.length_of.result 0 c.if-length_of-eq0.true) in
+    count_ends has_length SLOTS c.args.board.now c.loop-n.n (omega arith) free c.loop-n.invariant
 
-pub returns-after-loop-n : goal.returns-after-loop-n
-returns-after-loop-n c =
-    let l = c.loop-n in
-    let b = c.args.board.now in
-    let both = count_whole has_length SLOTS b l.n (omega arith) l.invariant in
-    record { most = both.0; result = both.1 }
+pub returns-clause-result : goal.returns-clause-result
+returns-clause-result c = count_whole has_length SLOTS c.args.board.now c.loop-n.n (omega arith) c.loop-n.invariant

@@ -5,13 +5,13 @@ use mathlib.Core.Bool.{true, false, ◌&&◌}
 use mathlib.Core.List.{List}
 use Prim.Native.Nat.{ℕ, ◌*◌}
 use native.Mathlib.Omega.{arith}
-use borrow.Author.Tests.{eq-eqb, ne_eqb}
+use borrow.Author.Tests.{eq-eqb}
 use lib.ListN.{length, drop}
 use Rattle.records.specs.Layout.{answer_room}
 use Rattle.slots.specs.Slots.{is_zero}
 use Rattle.board.specs.Board.{SLOTS, board_size, is_board}
 use Rattle.board.specs.Internals.{slots_before_free, filled_rising}
-use Rattle.board.proofs.Checked.{checked, rest_is}
+use Rattle.board.proofs.Checked.{checked}
 use Rattle.board.proofs.checks.is_board.Goals as goal
 
 -- For bytes of the right size, `is_board` is the conjunction of the two tests that the code makes.
@@ -21,16 +21,11 @@ tested : (b : List ℕ) → length b ≡ board_size →
 unfolding is_board
 tested b e = rw (eq-eqb (length b) board_size e) (checked SLOTS 0 b e)
 
-pub returns-then-board-ne-BOARD_SIZE : goal.returns-then-board-ne-BOARD_SIZE
-unfolding is_board
-returns-then-board-ne-BOARD_SIZE c = rw (ne_eqb (length c.args.board.now) board_size c.if-board-ne-BOARD_SIZE.true) refl
-
 pub returns-then-are_filled : goal.returns-then-are_filled
 returns-then-are_filled c =
     let b = c.args.board.now in
     let n = c.filled_slots-filled in
-    let zero : c.is_zero.result ≡ is_zero (drop (n.result * answer_room) b) =
-    c.is_zero.ensures ∙ ap is_zero (rest_is (n.result * answer_room) b) in
+    let zero : c.is_zero.result ≡ is_zero (drop (n.result * answer_room) b) = c.is_zero.ensures ∙ ap is_zero c.slots_from.ensures in
     let filled : filled_rising n.result 0 b ≡ true = sym c.are_filled.ensures ∙ c.if-are_filled.true in
     zero ∙ sym (tested b (omega arith) ∙ rw (← n.ensures.result, filled) refl)
 

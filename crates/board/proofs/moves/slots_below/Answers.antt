@@ -1,40 +1,33 @@
 -- `slots_below` meets its contract. The loop invariant is `Counted`: i slots passed the test so far, and i plus the
--- count over the remaining slots is the whole count. The measure is the number of slots left.
+-- count over the remaining slots is the whole count.
 use Prim.Native.Nat.{ℕ}
 use mathlib.Core.Path.{◌∙◌, sym, ap}
 use native.Mathlib.Omega.{arith}
 use lib.Dec.{ltb}
 use borrow.Author.Tests.{lt-ltb, le-ltb}
+use Rattle.records.specs.Layout.{job_of}
 use Rattle.board.specs.Internals.{is_below}
 use Rattle.board.proofs.Checked.{count_starts, count_next, count_ends, count_whole}
 use Rattle.board.proofs.moves.slots_below.Goals as goal
 
 pub loop-i-init : goal.loop-i-init
-loop-i-init c =
-    let a = c.args in
-    count_starts (is_below a.job) a.n a.board.now
-
-pub job_in-requires : goal.job_in-requires
-job_in-requires c = (omega arith, omega arith)
+loop-i-init c = count_starts (is_below c.args.job) c.args.n c.args.board.now
 
 pub loop-i-preserved : goal.loop-i-preserved
 loop-i-preserved c =
-    let l = c.loop-i in
     let a = c.args in
-    let below = ap (λ (x : ℕ). ltb x a.job) (sym c.job_in.ensures) ∙ lt-ltb c.job_in.result a.job c.if-job_in-job.true in
-    count_next (is_below a.job) a.n a.board.now l.i (omega arith) below l.invariant
+    let read = c.job_of.ensures ∙ ap job_of c.slots_from.ensures in
+    let below = ap (λ (x : ℕ). ltb x a.job) (sym read) ∙ lt-ltb c.job_of.result a.job c.if-job-job_of.false in
+    count_next (is_below a.job) a.n a.board.now c.loop-i.i (omega arith) below c.loop-i.invariant
 
-pub returns-else-job_in-job : goal.returns-else-job_in-job
-returns-else-job_in-job c =
-    let l = c.loop-i in
+pub returns-then-job-job_of-clause-result : goal.returns-then-job-job_of-clause-result
+returns-then-job-job_of-clause-result c =
     let a = c.args in
-    let not_below = ap (λ (x : ℕ). ltb x a.job) (sym c.job_in.ensures) ∙ le-ltb c.job_in.result a.job c.if-job_in-job.false in
-    let both = count_ends (is_below a.job) a.n a.board.now l.i (omega arith) not_below l.invariant in
-    record { most = both.0; result = both.1 }
+    let read = c.job_of.ensures ∙ ap job_of c.slots_from.ensures in
+    let not_below = ap (λ (x : ℕ). ltb x a.job) (sym read) ∙ le-ltb c.job_of.result a.job c.if-job-job_of.true in
+    count_ends (is_below a.job) a.n a.board.now c.loop-i.i (omega arith) not_below c.loop-i.invariant
 
-pub returns-after-loop-i : goal.returns-after-loop-i
-returns-after-loop-i c =
-    let l = c.loop-i in
+pub returns-clause-result : goal.returns-clause-result
+returns-clause-result c =
     let a = c.args in
-    let both = count_whole (is_below a.job) a.n a.board.now l.i (omega arith) l.invariant in
-    record { most = both.0; result = both.1 }
+    count_whole (is_below a.job) a.n a.board.now c.loop-i.i (omega arith) c.loop-i.invariant

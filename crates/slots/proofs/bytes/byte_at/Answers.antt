@@ -1,8 +1,0 @@
--- `bytes::byte_at` meets its contract. Past the end, `get_or` gives its default, which is 0 here.
-use mathlib.Core.Path.{sym}
-use native.Mathlib.Omega.{arith}
-use lib.ListN.{get_or-eq_default}
-use Rattle.slots.proofs.bytes.byte_at.Goals as goal
-
-pub returns-else-i-s : goal.returns-else-i-s
-returns-else-i-s c = sym (get_or-eq_default c.args.s.now 0 (omega arith))
