@@ -1,9 +1,10 @@
 -- The values for a host that draws a question's curve. Definitions only.
+use Rattle.std.specs.Prelude.{Result, Ok, Err}
 use Rattle.std.specs.Prelude.{ℕ, ◌+◌, List, ℤ}
 use Rattle.float64.specs.Notation.{bits_of}
+use Rattle.entrance.specs.declared.Problem.{Problem}
+use Rattle.entrance.specs.declared.Fault.{Fault}
 use Rattle.entrance.specs.Judge.{judge_of}
-use Rattle.entrance.specs.declared.Judged.{Judged}
-use Rattle.entrance.specs.declared.Judged.TheVariants.{Refused, Accepted}
 use Rattle.flight_time.specs.Time.{place_bits}
 use Rattle.entries.specs.Entries.{place_of}
 use Rattle.solver.specs.Crossed.{last_station}
@@ -15,21 +16,21 @@ abbrev pub refused_bits : ℕ
 refused_bits = 0xFFFF_FFFF_FFFF_FFFF
 
 -- The bits of the wanted time, given the verdict of the entrance checks. A refused question has none.
-abbrev pub wanted_after : Judged → ℕ
-wanted_after (Refused n) = refused_bits
-wanted_after (Accepted p) = bits_of p.wanted
+abbrev pub wanted_after : Result Problem Fault → ℕ
+wanted_after (Err fault) = refused_bits
+wanted_after (Ok p) = bits_of p.wanted
 
 -- How many stations a question has, given the verdict of the entrance checks. A refused question
 -- has none.
-abbrev pub stations_after : Judged → ℕ
-stations_after (Refused n) = 0
-stations_after (Accepted p) = last_station p + 1
+abbrev pub stations_after : Result Problem Fault → ℕ
+stations_after (Err fault) = 0
+stations_after (Ok p) = last_station p + 1
 
 -- The bits of the time at a place, given the verdict of the entrance checks. If the place is void, they are the bits of a NaN that carry
 -- the number of the reason (`place_bits`). A refused question has no time anywhere.
-abbrev pub time_after : Judged → ℤ → ℕ
-time_after (Refused n) k = refused_bits
-time_after (Accepted p) k = place_bits (place_of p k)
+abbrev pub time_after : Result Problem Fault → ℤ → ℕ
+time_after (Err fault) k = refused_bits
+time_after (Ok p) k = place_bits (place_of p k)
 
 -- The bits of the wanted time of a question, judged with room for the longest answer.
 unfoldable pub wanted_bits : List ℕ → ℕ

@@ -5,7 +5,6 @@ ghost use Rattle.std.specs.Prelude.{◌≡◌};
 ghost use Rattle.stations.specs.Stations.{station_of};
 ghost use Rattle.c_solver.specs.Curve.{wanted_bits, station_count, time_bits};
 
-use entrance::Judged;
 use records::ANSWER_ROOM;
 
 // The value returned as a time for a question that does not pass the entrance checks: all bits are ones.
@@ -16,8 +15,8 @@ pub fn lambert_wanted(question: &[u8]) -> u64
     ensures { result ≡ wanted_bits question.now }
 {
     match entrance::judge(question, ANSWER_ROOM) {
-        Judged::Refused(_) => REFUSED_BITS,
-        Judged::Accepted(problem) => float64::to_bits(problem.wanted),
+        Err(_) => REFUSED_BITS,
+        Ok(problem) => float64::to_bits(problem.wanted),
     }
 }
 
@@ -26,8 +25,8 @@ pub fn lambert_stations(question: &[u8]) -> u64
     ensures { result ≡ station_count question.now }
 {
     match entrance::judge(question, ANSWER_ROOM) {
-        Judged::Refused(_) => 0,
-        Judged::Accepted(problem) => stations::last_station(problem.revolutions) as u64 + 1,
+        Err(_) => 0,
+        Ok(problem) => stations::last_station(problem.revolutions) as u64 + 1,
     }
 }
 
@@ -45,7 +44,7 @@ pub fn lambert_time(question: &[u8], k: i64) -> u64
     ensures { result ≡ time_bits question.now k }
 {
     match entrance::judge(question, ANSWER_ROOM) {
-        Judged::Refused(_) => REFUSED_BITS,
-        Judged::Accepted(problem) => flight_time::place_bits(entries::place_at(problem, k)),
+        Err(_) => REFUSED_BITS,
+        Ok(problem) => flight_time::place_bits(entries::place_at(problem, k)),
     }
 }

@@ -13,7 +13,7 @@ use hypergeometric::reason_number;
 use little_endian::signed32_bits;
 use question_record::write_record;
 use records::VOID_NUMBER;
-use solver::{Outcome, solve};
+use solver::{Cause, solve};
 use sweep::VoidStation;
 
 // Calls `solve`. Returns 0 for an answer. For a refusal, the result is:
@@ -29,13 +29,13 @@ pub fn lambert_solve(question: &[u8], answer: &mut [u8]) -> u64
 }
 
 // Returns the word for an outcome.
-fn outcome_word(outcome: Outcome) -> u64
+fn outcome_word(outcome: Result<u16, Cause>) -> u64
     ensures { result ≡ outcome_word outcome }
 {
     match outcome {
-        Outcome::Refused(number) => number as u64,
-        Outcome::RefusedVoid(station) => void_word(station),
-        Outcome::Answered(_) => 0,
+        Err(Cause::StationVoid(station)) => void_word(station),
+        Err(cause) => u64::from(u16::from(cause)),
+        Ok(_) => 0,
     }
 }
 

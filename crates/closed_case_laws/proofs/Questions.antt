@@ -5,6 +5,7 @@ use mathlib.Core.Path.{◌≡◌, refl}
 use mathlib.Core.List.{List, [], ◌∷◌, ◌++◌, map}
 use Prim.Native.Nat.{ℕ, ◌-◌}
 use lib.Ieee.{add, sub, mul, div, neg, lt, le, eq, of_bits, to_bits}
+use Rattle.std.specs.Prelude.{Result, Ok, Err}
 use Rattle.float64.specs.Value.{finite_of, magnitude_of}
 use Rattle.float64.specs.Root.{root_of}
 use Rattle.float64.specs.declared.Vector.{Vector}
@@ -16,10 +17,10 @@ use Rattle.records.specs.Layout.{answer_room, encode, question_fields}
 use Rattle.records.specs.Records.{question_of, question_bytes}
 use Rattle.entrance.specs.Conditions.{malformed, far_off, position_far, positions_far, mu_outside, time_outside, many_revolutions}
 use Rattle.entrance.specs.Conditions.{small_buffer}
-use Rattle.entrance.specs.Judge.{checks, first_of, judge_of}
+use Rattle.entrance.specs.declared.Problem.{Problem}
+use Rattle.entrance.specs.declared.Fault.{Fault}
+use Rattle.entrance.specs.Judge.{checks, first_of, fault_number, judge_of}
 use Rattle.closed_case_laws.specs.Given.{HALF, ONE, TWO, flat, asked}
-use Rattle.entrance.specs.declared.Judged.{Judged}
-use Rattle.entrance.specs.declared.Judged.TheVariants.{Refused, Accepted}
 
 -- ---- further numbers, as bits
 -- TINY is 2 ^ -11, P20 is 2 ^ 20 and so on, and P40_next is the next f64 above 2 ^ 40.
@@ -74,9 +75,9 @@ pub record Row : Type 0 where
 row : List ℕ → ℕ → ℕ → Row
 row s room n = record { question = s; room = room; number = n }
 
-pub given : Judged → ℕ
-given (Refused n) = n
-given (Accepted p) = 0
+pub given : Result Problem Fault → ℕ
+given (Err f) = fault_number f
+given (Ok p) = 0
 
 pub rows : List Row
 rows =

@@ -34,7 +34,7 @@ use Rattle.crossing_laws.proofs.AnyTriangle.{void_from_the_first, nothing_at_nan
 use Rattle.crossing_laws.proofs.VoidStations.{station_exactly}
 use Rattle.crossing_laws.specs.FirstVoid.{IsFirstVoidStation}
 use Rattle.little_endian.specs.Bytes.{twos_complement}
-use Rattle.solver.specs.declared.Outcome.TheVariants.{RefusedVoid}
+use Rattle.solver.specs.declared.Cause.TheVariants.{StationVoid}
 use Rattle.c_time.specs.SweepNumber.{walk_number}
 use Rattle.c_solver.specs.OutcomeWord.{outcome_word}
 use Rattle.closed_case_laws.specs.Given.{ONE, with_lambda}
@@ -75,7 +75,7 @@ pub report_is : walk_number (SomeVoid first_outside) ≡ 0xFFFF_F001_0000_0110
 unfolding reason_number twos_complement
 report_is = refl
 
-pub refusal_12_is : outcome_word (RefusedVoid first_outside) ≡ 0xFFFF_F001_0001_000C
+pub refusal_12_is : outcome_word (Err (StationVoid first_outside)) ≡ 0xFFFF_F001_0001_000C
 unfolding reason_number twos_complement
 refusal_12_is = refl
 

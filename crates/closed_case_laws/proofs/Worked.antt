@@ -5,6 +5,7 @@ use mathlib.Core.List.{List, map}
 use Prim.Native.Nat.{ℕ}
 use lib.Ieee.{add, sub, mul, div, round, units, odd, size, neg, lt, le, eq, of_bits, of_int, to_bits}
 use lib.ListN.{length}
+use Rattle.std.specs.Prelude.{None}
 use Rattle.float64.specs.Value.{finite_of, magnitude_of}
 use Rattle.float64.specs.Root.{root_of}
 use Rattle.vectors.specs.Vectors.{norm_squared, difference, cross, or_nan, root_or_nan}
@@ -40,7 +41,7 @@ each_row_holds = refl
 pub worked : List ℕ
 worked = like 7 1 (flat ONE 0) (flat 0 ONE) ONE
 
-no_fault : first_of (let q = question_of worked in checks (length worked) answer_room q (shape_of q.r1 q.r2 (is_long_way q))) ≡ 0
+no_fault : first_of (let q = question_of worked in checks (length worked) answer_room q (shape_of q.r1 q.r2 (is_long_way q))) ≡ None
 unfolding worked like asked checks first_of malformed far_off position_far positions_far mu_outside time_outside many_revolutions
     small_buffer
     outside_of radius_outside no_plane short_chord flat_triangle semiperimeter_of at_least_zero lambda_of triangle_of shape_of norm_squared

@@ -2,7 +2,7 @@
 -- (`demand_3`). Both follow from one equation, `solve_is`: a call gives the number of the first row of 01's whole table that applies, or
 -- the answer if none applies.
 use mathlib.Core.Path.{◌≡◌, refl, sym, ap, ◌∙◌}
-use mathlib.Core.Bool.{Bool, true, false, cond}
+use mathlib.Core.Bool.{true, false, cond}
 use mathlib.Core.List.{List, ◌++◌, map}
 use Prim.Native.Nat.{ℕ, ◌≤◌, ◌<◌}
 use native.Mathlib.Omega.{arith}
@@ -10,6 +10,7 @@ use native.Mathlib.Nat.{le_of_suc-le-suc, lt_of_not-le}
 use borrow.Author.Tests.{eq-eqb, ne_eqb, eqb-true, eqb-false, ltb-true, ltb-false, lt-ltb, le-ltb}
 use lib.Dec.{eqb, ltb, lit<, lit≤}
 use lib.ListN.{length, get_or, take, drop, get_or-map, length-map}
+use Rattle.std.specs.Prelude.{Option, Some, None, Result, Ok, Err}
 use Rattle.geometry.specs.Triangles.{shape_of}
 use Rattle.geometry.specs.declared.Shape.{Shape}
 use Rattle.records.specs.Layout.{entry_size, answer_size, answer_room, void_number}
@@ -19,12 +20,13 @@ use Rattle.records.specs.declared.Question.{Question}
 use Rattle.records.specs.declared.Entry.{Entry}
 use Rattle.records.proofs.Answers.{answer_length}
 use Rattle.records.proofs.Reading.{entry_read, answer_head_read}
-use Rattle.entrance.specs.Judge.{Check, checks, is_long_way, first_of, problem_of, judge_of}
-use Rattle.entrance.specs.Table.{condition_of, Exactly}
+use Rattle.entrance.specs.Judge.{checks, is_long_way, first_of, fault_number, unless, problem_of, judge_of}
+use Rattle.entrance.specs.Table.{Row, rows_of, condition_of, Exactly}
 use Rattle.entrance.specs.declared.Problem.{Problem}
-use Rattle.entrance.specs.declared.Judged.TheVariants.{Refused, Accepted}
 use Rattle.entrance.proofs.Table.{Rising, none, more, UpTo, above, first_is, is_first, none_first, first_none, accepted_exactly}
-use Rattle.entrance.proofs.Table.{accepted_room, only_ten}
+use Rattle.entrance.proofs.Table.{accepted_room, first_in, number_or_0, number_first, fault_positive, fault_most}
+use Rattle.entrance.proofs.Unless.{a_fault}
+use Rattle.entrance.specs.declared.Fault.{Fault}
 use Rattle.bound_laws.proofs.Past.{past_bounds}
 use Rattle.stations.specs.Sides.{is_unknown}
 use Rattle.crossing_laws.specs.FirstVoid.{IsFirstVoidStation}
@@ -35,26 +37,43 @@ use Rattle.sweep.proofs.Counts.{counted}
 use Rattle.crossing_laws.proofs.FirstVoids.{clash}
 use Rattle.crossing_laws.proofs.Theorems.{false_by, listed_exactly, rises, none_exactly, void_at_lem as some_at, at_void as some_void_lem}
 use Rattle.stations.proofs.Grids.{grid_rises}
-use Rattle.solver.specs.declared.Outcome.{Outcome}
-use Rattle.solver.specs.declared.Outcome.TheVariants.{Refused, RefusedVoid, Answered}
+use Rattle.solver.specs.declared.Cause.{Cause}
+use Rattle.solver.specs.declared.Cause.TheVariants.{Entrance, StationVoid}
 use Rattle.solver.specs.Crossed.{search_of, sides_of, grid_of, last_place, seen_of, entries_of}
-use Rattle.solver.specs.Table.{any_void, all_finite, late_checks}
-use Rattle.solver.specs.Solve.{Solved, late_refusal, outcome_for, buffer_after, settled_of, solved_after, solve_of, outcome_number}
+use Rattle.solver.specs.Table.{cause_number, any_void, all_finite, late_checks}
+use Rattle.solver.specs.Solve.{Solved, outcome_for, buffer_after, settled_of, solved_after, solve_of, outcome_number}
 use Rattle.demand_laws.specs.Demand.{problem_from, table_of, row_of, HasAnswer, IsRefused, Demand1, Past, IsCrossing, pairs_of, entry_at}
 use Rattle.demand_laws.specs.Demand.{FiniteAll, FiniteNot, TimedAll, VoidSome, NonePair, Pairs, Answer, Demand3}
 use Rattle.demand_laws.specs.Demand.{InDomain}
-use Rattle.solver.proofs.Numbering.{rows, rows_are, report_agrees, untouched}
+use Rattle.solver.proofs.Numbering.{rows, rows_are, late_rows, late_number, station_seen, no_cause, twelve_named}
 use Rattle.sweep.specs.declared.walks.VoidStation.{VoidStation}
-use Rattle.sweep.specs.declared.walks.Walk.{Walk}
-use Rattle.sweep.specs.declared.walks.Walk.TheVariants.{AllTimed, SomeVoid, NinthFound}
-use Rattle.question_record.proofs.Recorded.{refusals_apart}
-use Rattle.demand_laws.proofs.VoidStations.{named_void, station_seen, first_void_lem}
+use Rattle.sweep.specs.declared.walks.Walk.TheVariants.{SomeVoid}
+use Rattle.demand_laws.proofs.VoidStations.{first_void_lem}
 use Rattle.demand_laws.proofs.RowFacts.{is_none, is_eleven, is_twelve, is_thirteen, is_fourteen, only_four, first_append}
 use Rattle.little_endian.proofs.Laid.{laid}
 use Rattle.demand_laws.proofs.ReadBack.{entry_held, head_held, listed_at}
 use Rattle.demand_laws.proofs.Answered.{entry_place, entries_pairs, each_finite, finite_each, finite_not, finite_is, timed_at}
 use Rattle.demand_laws.proofs.Answered.{void_at_lem, at_void, counts_crosses, crosses_counts, bracket_of_lem, chosen_by, lower_of}
 use Rattle.demand_laws.proofs.Answered.{halvings_of}
+
+-- The cause of the first row of the whole table that applies: the fault of the entrance checks, or else the cause of a later row.
+abbrev or_late : Option Fault → Option Cause → Option Cause
+or_late None late = late
+or_late (Some f) late = Some (Entrance f)
+
+-- A void station is the cause of a later row.
+late_void : (o : Option Fault) (late : Option Cause) (v : VoidStation) → or_late o late ≡ Some (StationVoid v) → late ≡ Some (StationVoid v)
+late_void None late v e = e
+late_void (Some f) late v e = absurd (omega (arith, ap (number_or_0 cause_number) e, fault_most f))
+
+unless_number : (o : Option Cause) (n : ℕ) → outcome_number (unless o n) ≡ number_or_0 cause_number o
+unless_number None n = refl
+unless_number (Some c) n = refl
+
+-- The outcome with number 12 has a station.
+station_of_outcome : (o : Result ℕ Cause) → outcome_number o ≡ void_number → (v : VoidStation) × (o ≡ Err (StationVoid v))
+station_of_outcome (Ok n) e = absurd (omega (arith, e))
+station_of_outcome (Err c) e = let v = twelve_named c e in (v.0, ap Err v.1)
 
 module _ (s b : List ℕ) where
   abbrev q : Question
@@ -66,12 +85,16 @@ module _ (s b : List ℕ) where
   abbrev p : Problem
   p = problem_from s
 
-  abbrev entrance : List Check
-  entrance = checks (length s) (length b) q g
+  -- The first fault that the entrance checks find, and their rows.
+  abbrev fault : Option Fault
+  fault = first_of (checks (length s) (length b) q g)
+
+  abbrev entrance : List Row
+  entrance = rows_of fault_number (checks (length s) (length b) q g)
 
   -- The number of the first row of the whole table that applies, or 0 if none does.
   abbrev N : ℕ
-  N = first_of (table_of s (length b))
+  N = first_in (table_of s (length b))
 
   rising_entrance : Rising 0 entrance
   unfolding checks
@@ -97,62 +120,45 @@ module _ (s b : List ℕ) where
       (more (lit≤ tt) (more (lit≤ tt) (more (lit≤ tt) (more (lit≤ tt) (more (lit≤ tt) (more (lit≤ tt) (more (lit≤ tt) (more (lit≤ tt)
       (more (lit≤ tt) (more (lit≤ tt) (more (lit≤ tt) (more (lit≤ tt) none)))))))))))))
 
-  table_first : N ≡ cond (eqb (first_of entrance) 0) (first_of (late_checks p)) (first_of entrance)
+  table_first : N ≡ cond (eqb (first_in entrance) 0) (first_in (late_rows p)) (first_in entrance)
   unfolding table_of
-  table_first = first_append 0 entrance (late_checks p) rising_entrance
+  table_first = first_append 0 entrance (late_rows p) rising_entrance
 
   -- ---- the equation for a call
-  -- The outcome of number n, and the result of a call with this outcome. 0 means an answer.
-  abbrev outcome_at : ℕ → Outcome
-  outcome_at n = cond (eqb n 0) (Answered (length (entries_of p))) (late_refusal n (seen_of p))
+  -- The cause of the first row of the whole table that applies, and the result of a call with a cause. No cause means an answer.
+  abbrev cause : Option Cause
+  cause = or_late fault (first_of (late_checks p))
 
-  abbrev given : ℕ → Solved
-  given n = record { outcome = outcome_at n; buffer = buffer_after p (outcome_at n) b }
+  abbrev given : Option Cause → Solved
+  given o = record {
+    outcome = unless o (length (entries_of p));
+    buffer = buffer_after p (unless o (length (entries_of p))) b;
+  }
 
-  -- A refusal with another number than 12 has the number alone.
-  plain : (n : ℕ) (walk : Walk) → (n ≡ void_number → ⊥) → late_refusal n walk ≡ Refused n
-  plain n AllTimed h = refl
-  plain n (SomeVoid station) h = rw (ne_eqb n void_number h)
-  plain n NinthFound h = refl
-
-  -- The number of an entrance check is at most 10.
-  not_void : (eqb (first_of entrance) 0 ≡ false) → first_of entrance ≡ void_number → ⊥
-  unfolding condition_of
-  not_void e z =
-      let own = (first_is 0 entrance void_number rising_entrance (lit< tt) z).own in
-      omega (arith, only_ten s (length b) void_number own)
-
-  by_entrance : (t : Bool) → eqb (first_of entrance) 0 ≡ t →
-      solved_after (cond t (Accepted p) (Refused (first_of entrance))) b ≡ given (cond t (first_of (late_checks p)) (first_of entrance))
+  by_entrance : (o : Option Fault) → solved_after (unless o p) b ≡ given (or_late o (first_of (late_checks p)))
   unfolding settled_of outcome_for
-  by_entrance true e = refl
-  by_entrance false e = rw (e, plain (first_of entrance) (seen_of p) (not_void e))
+  by_entrance None = refl
+  by_entrance (Some f) = refl
 
-  pub solve_is : solve_of s b ≡ given N
+  pub solve_is : solve_of s b ≡ given cause
   unfolding solve_of judge_of
-  solve_is = by_entrance (eqb (first_of entrance) 0) refl ∙ ap given (sym table_first)
+  solve_is = by_entrance fault
 
-  outcome_is : (solve_of s b).outcome ≡ outcome_at N
+  outcome_is : (solve_of s b).outcome ≡ unless cause (length (entries_of p))
   outcome_is = ap (λ (x : Solved). x.outcome) solve_is
 
   -- ---- the number of an outcome is that of the first row that applies
-  number_by : (n : ℕ) (station : VoidStation) (t : Bool) → eqb n void_number ≡ t →
-      outcome_number (cond t (RefusedVoid station) (Refused n)) ≡ n
-  number_by n station true e = sym (eqb-true n void_number e)
-  number_by n station false e = refl
+  by_fault : (o : Option Fault) → first_in entrance ≡ number_or_0 fault_number o →
+      number_or_0 cause_number (or_late o (first_of (late_checks p)))
+      ≡ cond (eqb (first_in entrance) 0) (first_in (late_rows p)) (first_in entrance)
+  by_fault None e = rw e (sym (late_number p))
+  by_fault (Some f) e = rw (e, ne_eqb (fault_number f) 0 (λ z. omega (arith, z, fault_positive f)))
 
-  late_number_lem : (n : ℕ) (walk : Walk) → outcome_number (late_refusal n walk) ≡ n
-  late_number_lem n AllTimed = refl
-  late_number_lem n (SomeVoid station) = number_by n station (eqb n void_number) refl
-  late_number_lem n NinthFound = refl
-
-  outcome_number_lem : (n : ℕ) (t : Bool) → eqb n 0 ≡ t →
-      outcome_number (cond t (Answered (length (entries_of p))) (late_refusal n (seen_of p))) ≡ n
-  outcome_number_lem n true e = sym (eqb-true n 0 e)
-  outcome_number_lem n false e = late_number_lem n (seen_of p)
+  cause_number_is : number_or_0 cause_number cause ≡ N
+  cause_number_is = by_fault fault (number_first fault_number (checks (length s) (length b) q g)) ∙ sym table_first
 
   number_is : outcome_number (solve_of s b).outcome ≡ N
-  number_is = ap outcome_number outcome_is ∙ outcome_number_lem N (eqb N 0) refl
+  number_is = ap outcome_number outcome_is ∙ unless_number cause (length (entries_of p)) ∙ cause_number_is
 
   refused_when : (n : ℕ) → IsRefused s b n → N ≡ n
   refused_when n r = sym number_is ∙ r.1
@@ -161,43 +167,31 @@ module _ (s b : List ℕ) where
   when_refused n h e = (h, number_is ∙ e)
 
   -- ---- an answer
-  when_answered : N ≡ 0 → solve_of s b ≡ given 0
-  when_answered e = solve_is ∙ ap given e
+  when_answered : N ≡ 0 → solve_of s b ≡ given None
+  when_answered e = solve_is ∙ ap given (no_cause cause (cause_number_is ∙ e))
 
-  answered_when : (n : ℕ) → (solve_of s b).outcome ≡ Answered n → (N ≡ 0) × (length (entries_of p) ≡ n)
+  answered_when : (n : ℕ) → (solve_of s b).outcome ≡ Ok n → (N ≡ 0) × (length (entries_of p) ≡ n)
   answered_when n e =
       let z : N ≡ 0 = sym number_is ∙ ap outcome_number e in
-      let same : Answered (length (entries_of p)) ≡ Answered n = sym (ap (λ (x : Solved). x.outcome) (when_answered z)) ∙ e in
+      let same : Ok (length (entries_of p)) ≡ Ok n = sym (ap (λ (x : Solved). x.outcome) (when_answered z)) ∙ e in
       (z, cc same)
 
   has_answer : N ≡ 0 → HasAnswer s b
   has_answer z = (length (entries_of p), ap (λ (x : Solved). x.outcome) (when_answered z))
 
-  -- ---- a refusal with a station: it has number 12, and the station is that of the report
-  void_number_lem : (v : VoidStation) → (solve_of s b).outcome ≡ RefusedVoid v → N ≡ void_number
+  -- ---- a refusal: it leaves the buffer untouched
+  left_by : (o : Option Cause) → 0 < number_or_0 cause_number o → (given o).buffer ≡ b
+  left_by None h = absurd (omega (arith, h))
+  left_by (Some c) h = refl
+
+  -- A refusal with a station has number 12, and the station is that of the report.
+  void_number_lem : (v : VoidStation) → (solve_of s b).outcome ≡ Err (StationVoid v) → N ≡ void_number
   void_number_lem v e = sym number_is ∙ ap outcome_number e
 
-  pub void_seen : (v : VoidStation) → (solve_of s b).outcome ≡ RefusedVoid v → seen_of p ≡ SomeVoid v
+  pub void_seen : (v : VoidStation) → (solve_of s b).outcome ≡ Err (StationVoid v) → seen_of p ≡ SomeVoid v
   void_seen v e =
-      let late-one : late_refusal void_number (seen_of p) ≡ RefusedVoid v = sym (outcome_is ∙ ap outcome_at (void_number_lem v e)) ∙ e in
-      station_seen void_number (seen_of p) v late-one
-
-  -- A refusal without a station has another number than 12: the report of a problem that gets 12 names a station.
-  late_twelve : N ≡ void_number → first_of (late_checks p) ≡ void_number
-  late_twelve e = by (eqb (first_of entrance) 0) refl (sym table_first ∙ e)
-    where
-      by : (t : Bool) → eqb (first_of entrance) 0 ≡ t → cond t (first_of (late_checks p)) (first_of entrance) ≡ void_number →
-          first_of (late_checks p) ≡ void_number
-      by true z f = f
-      by false z f = absurd (not_void z f)
-
-  pub plain_other : (n : ℕ) → (solve_of s b).outcome ≡ Refused n → n ≡ void_number → ⊥
-  plain_other n e z =
-      let twelve : N ≡ void_number = sym number_is ∙ ap outcome_number e ∙ z in
-      let row = sym (rows_are p) ∙ late_twelve twelve in
-      let void = (is_twelve (eqb (length (pairs_of p)) 0) (any_void p) (ltb 8 (length (pairs_of p))) (all_finite p) row).1 in
-      let v = named_void (report_agrees p) void in
-      refusals_apart (sym (outcome_is ∙ ap outcome_at twelve ∙ ap (late_refusal void_number) v.1) ∙ e)
+      let given-one : cause ≡ Some (StationVoid v) = a_fault cause (length (entries_of p)) (StationVoid v) (sym outcome_is ∙ e) in
+      station_seen p v (late_void fault (first_of (late_checks p)) v given-one)
 
   -- ---- demand 1
   pub demand_1 : Demand1 s b
@@ -219,14 +213,13 @@ module _ (s b : List ℕ) where
             let never : 15 ≤ n → ⊥ = λ h. clash f.own (above 14 (table_of s (length b)) n to_fourteen h) in
             le_of_suc-le-suc (lt_of_not-le never);
         untouched = λ n r.
-            let some : eqb N 0 ≡ false = ne_eqb N 0 (λ z. omega (arith, z, refused_when n r, r.0)) in
-            ap (λ (x : Solved). x.buffer) solve_is ∙ rw some (untouched p N (seen_of p) b);
+            ap (λ (x : Solved). x.buffer) solve_is ∙ left_by cause (omega (arith, cause_number_is, refused_when n r, r.0));
         zero = record { only = λ e. number_is ∙ (answered_when e.0 e.1).0; always = λ z. has_answer (sym number_is ∙ z) };
       }
 
   -- ---- demand 3
   module _ (past : Past s (length b)) where
-    late : N ≡ first_of (late_checks p)
+    late : N ≡ first_in (late_rows p)
     unfolding condition_of
     late = table_first ∙ rw (none_first 0 entrance rising_entrance past)
 
@@ -285,15 +278,10 @@ module _ (s b : List ℕ) where
     some_void_of : VoidSome p → any_void p ≡ true
     some_void_of h = some_at (sides_of p) (grid_of p) (last_place p) h.0 h.1.0 (void_at_lem p ((grid_of p).place h.0) h.1.1.1)
 
-    -- Number 12 comes with the station of the report.
-    the_station : IsRefused s b 12 → (v : VoidStation) × ((solve_of s b).outcome ≡ RefusedVoid v)
-    the_station r =
-        let n = refused_when 12 r in
-        let void = (is_twelve (eqb C 0) (any_void p) (ltb 8 C) (all_finite p) (row 12 n)).1 in
-        let v = named_void (report_agrees p) void in
-        (v.0, outcome_is ∙ ap outcome_at n ∙ ap (late_refusal void_number) v.1)
+    the_station : IsRefused s b 12 → (v : VoidStation) × ((solve_of s b).outcome ≡ Err (StationVoid v))
+    the_station r = station_of_outcome (solve_of s b).outcome r.1
 
-    the_first : (v : VoidStation) → (solve_of s b).outcome ≡ RefusedVoid v → IsRefused s b 12 × IsFirstVoidStation (search_of p) v
+    the_first : (v : VoidStation) → (solve_of s b).outcome ≡ Err (StationVoid v) → IsRefused s b 12 × IsFirstVoidStation (search_of p) v
     the_first v e = (when_refused 12 (lit< tt) (void_number_lem v e), first_void_lem p v (void_seen v e))
 
     finite_all : all_finite p ≡ true → FiniteAll p
@@ -364,7 +352,7 @@ module _ (s b : List ℕ) where
         ∙ answer_head_read q.job q.revision es (drop (answer_size n) b) own
         ∙ ap (answer_head_of q.job q.revision) size
 
-    the_answer : (n : ℕ) → (solve_of s b).outcome ≡ Answered n → Answer s b n
+    the_answer : (n : ℕ) → (solve_of s b).outcome ≡ Ok n → Answer s b n
     the_answer n o =
         let z = (answered_when n o).0 in
         let e = (answered_when n o).1 in

@@ -1,5 +1,5 @@
 -- What the four tests say if a given row from 11 to 14, or none of them, is the first that applies (`is_none` to `only_four`), and the
--- first check that applies in two lists of checks joined together (`first_append`).
+-- first row that applies in two lists of rows joined together (`first_append`).
 use mathlib.Core.Path.{◌≡◌, refl, sym}
 use mathlib.Core.Bool.{Bool, true, false, cond}
 use mathlib.Core.Logic.{◌⊎◌, inl, inr}
@@ -8,8 +8,8 @@ use Prim.Native.Nat.{ℕ, ◌<◌}
 use native.Mathlib.Omega.{arith}
 use borrow.Author.Tests.{ne_eqb}
 use lib.Dec.{eqb}
-use Rattle.entrance.specs.Judge.{Check, first_of}
-use Rattle.entrance.proofs.Table.{Rising, none, more}
+use Rattle.entrance.specs.Table.{Row}
+use Rattle.entrance.proofs.Table.{Rising, none, more, first_in}
 use Rattle.solver.proofs.Numbering.{rows}
 
 pub is_none : (z v n f : Bool) → rows z v n f ≡ 0 → (z ≡ false) × (n ≡ false) × (f ≡ true)
@@ -54,15 +54,15 @@ only_four false v true f k e h = inr (inr (inl (sym e)))
 only_four false v false false k e h = inr (inr (inr (sym e)))
 only_four false v false true k e h = absurd (omega (arith, e, h))
 
--- ---- the first check that applies in two joined lists: it is in the second list if none in the first applies
-pub first_append : (low : ℕ) (xs ys : List Check) → Rising low xs
-    → first_of (xs ++ ys) ≡ cond (eqb (first_of xs) 0) (first_of ys) (first_of xs)
-unfolding first_of
+-- ---- the first row that applies in two joined lists: it is in the second list if none in the first applies
+pub first_append : (low : ℕ) (xs ys : List Row) → Rising low xs
+    → first_in (xs ++ ys) ≡ cond (eqb (first_in xs) 0) (first_in ys) (first_in xs)
+unfolding first_in
 first_append low [] ys none = refl
 first_append low (c ∷ cs) ys (more l r) = by c.applies (first_append c.number cs ys r)
   where
-    by : (b : Bool) → first_of (cs ++ ys) ≡ cond (eqb (first_of cs) 0) (first_of ys) (first_of cs) →
-        cond b c.number (first_of (cs ++ ys))
-        ≡ cond (eqb (cond b c.number (first_of cs)) 0) (first_of ys) (cond b c.number (first_of cs))
+    by : (b : Bool) → first_in (cs ++ ys) ≡ cond (eqb (first_in cs) 0) (first_in ys) (first_in cs) →
+        cond b c.number (first_in (cs ++ ys))
+        ≡ cond (eqb (cond b c.number (first_in cs)) 0) (first_in ys) (cond b c.number (first_in cs))
     by true e = rw (ne_eqb c.number 0 (λ z. omega (arith, z, l)))
     by false e = e

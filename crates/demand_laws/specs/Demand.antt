@@ -1,5 +1,6 @@
 -- The demands on `solve_of`, which takes bytes and gives bytes: first each demand that 01 refers to by number, and at the end all of them
 -- together (`Demanded`). In these definitions s is the question and b is the answer buffer. Definitions only.
+use Rattle.std.specs.Prelude.{Ok, Err}
 use Rattle.std.specs.Prelude.{◌≡◌, Bool, true, false, cond, not, ◌⊎◌, List, ◌++◌, map, ℕ, ◌+◌, ◌-◌, ◌^◌, ◌≤◌, ◌<◌, eqb, pos, ◌+ℤ◌, Float}
 use Rattle.std.specs.Prelude.{length, get_or, take, drop}
 use Rattle.question_record.specs.Record.{record_of, output_of}
@@ -12,8 +13,8 @@ use Rattle.records.specs.Records.{question_of, head_of, answer_head_of, entry_of
 use Rattle.records.specs.Records.{refusal_bytes}
 use Rattle.records.specs.declared.Refusal.{Refusal}
 use Rattle.records.specs.declared.Entry.{Entry}
-use Rattle.entrance.specs.Judge.{Check, checks, is_long_way, problem_of}
-use Rattle.entrance.specs.Table.{applies_in, condition_of, First, Exactly}
+use Rattle.entrance.specs.Judge.{checks, is_long_way, fault_number, problem_of}
+use Rattle.entrance.specs.Table.{Row, rows_of, applies_in, condition_of, First, Exactly}
 use Rattle.entrance.specs.declared.Problem.{Problem}
 use Rattle.hypergeometric.specs.Reasons.{reason_number}
 use Rattle.hypergeometric.specs.declared.reasons.Reason.{Reason}
@@ -26,10 +27,11 @@ use Rattle.crossing_laws.specs.FirstVoid.{IsFirstVoidStation}
 use Rattle.crossing_laws.specs.Listed.{Listed, Rising}
 use Rattle.bisection.specs.declared.Bracket.{Bracket}
 use Rattle.velocity.specs.Chosen.{upper_chosen}
-use Rattle.solver.specs.declared.Outcome.TheVariants.{Refused, RefusedVoid, Answered}
+use Rattle.solver.specs.declared.Cause.{Cause}
+use Rattle.solver.specs.declared.Cause.TheVariants.{StationVoid}
 use Rattle.entries.specs.Entries.{place_of, velocities_at, end_number, entry_for, entry_finite}
 use Rattle.solver.specs.Crossed.{search_of, sides_of, grid_of, last_place}
-use Rattle.solver.specs.Table.{late_checks}
+use Rattle.solver.specs.Table.{cause_number, late_checks}
 use Rattle.solver.specs.Solve.{solve_of, outcome_number}
 
 -- The problem that a question's bytes describe.
@@ -39,9 +41,11 @@ problem_from s = let q = question_of s in problem_of q (shape_of q.r1 q.r2 (is_l
 -- ---- demand 1: every bad question gets the number of its first fault
 
 -- All fourteen rows of 01's table of refusals, for a question and the size of the answer buffer.
-unfoldable pub table_of : List ℕ → ℕ → List Check
+unfoldable pub table_of : List ℕ → ℕ → List Row
 table_of s room =
-    let q = question_of s in checks (length s) room q (shape_of q.r1 q.r2 (is_long_way q)) ++ late_checks (problem_from s)
+    let q = question_of s in
+    rows_of fault_number (checks (length s) room q (shape_of q.r1 q.r2 (is_long_way q)))
+    ++ rows_of cause_number (late_checks (problem_from s))
 
 -- Whether the row of number n applies.
 unfoldable pub row_of : List ℕ → ℕ → ℕ → Bool
@@ -49,7 +53,7 @@ row_of s room n = applies_in (table_of s room) n
 
 -- The question gets an answer, with some number of entries.
 abbrev pub HasAnswer : List ℕ → List ℕ → Type 0
-HasAnswer s b = (n : ℕ) × ((solve_of s b).outcome ≡ Answered n)
+HasAnswer s b = (n : ℕ) × ((solve_of s b).outcome ≡ Ok n)
 
 -- The question is refused with the number n, which is above 0.
 abbrev pub IsRefused : List ℕ → List ℕ → ℕ → Type 0
@@ -173,15 +177,15 @@ pub record Demand3 (s b : List ℕ) : Type 0 where
   -- The question is answered exactly if there are one to eight crossings and every velocity is finite.
   pub accepted : Exactly (HasAnswer s b)
       ((1 ≤ length (pairs_of (problem_from s))) × (length (pairs_of (problem_from s)) ≤ 8) × FiniteAll (problem_from s))
-  pub answer : (n : ℕ) → (solve_of s b).outcome ≡ Answered n → Answer s b n
+  pub answer : (n : ℕ) → (solve_of s b).outcome ≡ Ok n → Answer s b n
   -- Number 11 (no transfer was found) is given exactly if every place of the grid has a time and there is no crossing.
   pub eleven : Exactly (IsRefused s b 11) (TimedAll (problem_from s) × NonePair (problem_from s))
   -- Any other refusal is 12, 13 or 14, each exactly if 01's table says so.
   pub twelve : Exactly (IsRefused s b 12) (VoidSome (problem_from s) × NonePair (problem_from s))
   -- Number 12 comes with the first void station: it is void for the reason that comes with it, and every lower station has a time. No
   -- other number comes with a station.
-  pub station : IsRefused s b 12 → (v : VoidStation) × ((solve_of s b).outcome ≡ RefusedVoid v)
-  pub first_void : (v : VoidStation) → (solve_of s b).outcome ≡ RefusedVoid v →
+  pub station : IsRefused s b 12 → (v : VoidStation) × ((solve_of s b).outcome ≡ Err (StationVoid v))
+  pub first_void : (v : VoidStation) → (solve_of s b).outcome ≡ Err (StationVoid v) →
       IsRefused s b 12 × IsFirstVoidStation (search_of (problem_from s)) v
   pub thirteen : Exactly (IsRefused s b 13) (8 < length (pairs_of (problem_from s)))
   pub fourteen : Exactly (IsRefused s b 14)
@@ -203,18 +207,19 @@ void_refusal s v = record {
 -- How the record of a question, and what the buffer then holds, follow from the outcome of `solve_of`. `Demanded` states this for a buffer
 -- with room for the longest answer.
 pub record Recording (s b : List ℕ) : Type 0 where
-  pub answered : (n : ℕ) → (solve_of s b).outcome ≡ Answered n →
+  pub answered : (n : ℕ) → (solve_of s b).outcome ≡ Ok n →
       ((output_of s b).size ≡ answer_size n) × ((output_of s b).buffer ≡ (solve_of s b).buffer)
   -- A refusal without a station has a number other than 12, and its record is the head alone. It names the question's job and revision, or
   -- 0 for both with number 1.
-  pub refused : (n : ℕ) → (solve_of s b).outcome ≡ Refused n →
+  pub refused : (cause : Cause) → (solve_of s b).outcome ≡ Err cause → ((v : VoidStation) → cause ≡ StationVoid v → ⊥) →
+      let n = cause_number cause in
       let r = cond (eqb n 1) (refusal_with 0 0 n) (refusal_with (job_of s) (revision_of s) n) in
       (n ≡ void_number → ⊥) × ((output_of s b).size ≡ head_size) × ((output_of s b).buffer ≡ refusal_bytes r ++ drop head_size b)
   -- The record of number 12 has the question's job and revision, the j of the station, and the number of the reason, and reading it gives
   -- them back. The latter requires that s consists of bytes.
-  pub void : (v : VoidStation) → (solve_of s b).outcome ≡ RefusedVoid v →
+  pub void : (v : VoidStation) → (solve_of s b).outcome ≡ Err (StationVoid v) →
       ((output_of s b).size ≡ void_refusal_size) × ((output_of s b).buffer ≡ refusal_bytes (void_refusal s v) ++ drop void_refusal_size b)
-  pub void_read : (v : VoidStation) → (solve_of s b).outcome ≡ RefusedVoid v → AreBytes s →
+  pub void_read : (v : VoidStation) → (solve_of s b).outcome ≡ Err (StationVoid v) → AreBytes s →
       refusal_of (output_of s b).buffer ≡ void_refusal s v
   -- The record is at the buffer's start, fits in the room for the longest answer, and depends on the question's bytes alone.
   pub size : (output_of s b).size ≡ length (record_of s)

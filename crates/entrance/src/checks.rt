@@ -1,10 +1,10 @@
 // The entrance checks one by one, and the first of them that applies.
-ghost use Rattle.std.specs.Prelude.{◌≡◌, cond};
-ghost use Rattle.geometry.specs.Conditions.{radius_outside, no_plane, short_chord, flat_triangle};
+ghost use Rattle.std.specs.Prelude.{◌≡◌, cond, Ok, Err};
 ghost use Rattle.entrance.specs.Conditions.{malformed, far_off, position_far, positions_far, mu_outside};
 ghost use Rattle.entrance.specs.Conditions.{time_outside, many_revolutions, small_buffer};
-ghost use Rattle.entrance.specs.Judge.{checks, first_of};
+ghost use Rattle.entrance.specs.Judge.{checks, first_of, unless};
 
+use crate::Fault;
 use float64::Vector;
 use geometry::{LARGEST_LENGTH, Shape};
 use records::{ANSWER_ROOM, QUESTION_KIND, QUESTION_LENGTH, QUESTION_SIZE, Question};
@@ -70,40 +70,27 @@ fn small_buffer(room: usize) -> bool
     room < ANSWER_ROOM
 }
 
-// Returns n if the check applies, and otherwise `rest`, the result of the later checks.
-fn pick(applies: bool, n: u16, rest: u16) -> u16
-    ensures { result ≡ cond applies n rest }
+// Returns the fault as an error if its check applies.
+fn refuse_if(applies: bool, fault: Fault) -> Result<(), Fault>
+    ensures { result ≡ cond applies (Err fault) (Ok tt) }
 {
-    if applies { n } else { rest }
+    if applies { Err(fault) } else { Ok(()) }
 }
 
-// Returns the number of the first of checks 8 to 10 that applies, or 0.
-fn shape_fault(shape: Shape) -> u16
-    ensures { result ≡ cond (no_plane shape) 8 (cond (short_chord shape.triangle) 9 (cond (flat_triangle shape.triangle) 10 0)) }
+// Makes the entrance checks in the order of 01's table, and returns the fault of the first that applies as an error.
+#[tactic(auto, unfolding(crate::specs::Judge::checks, crate::specs::Judge::first_of))]
+pub(crate) fn check_all(size: usize, room: usize, q: Question, shape: Shape) -> Result<(), Fault>
+    ensures { result ≡ unless (first_of (checks size room q shape)) tt }
 {
     let triangle = shape.triangle;
-    let flat = pick(geometry::flat_triangle(triangle), 10, 0);
-    let short = pick(geometry::short_chord(triangle), 9, flat);
-    pick(geometry::no_plane(shape), 8, short)
-}
-
-// Returns the number of the first of checks 4 to 7 that applies, or `rest`, the result of the later
-// checks.
-fn number_fault(q: Question, room: usize, rest: u16) -> u16
-    ensures { result ≡ cond (mu_outside q) 4 (cond (time_outside q) 5 (cond (many_revolutions q) 6 (cond (small_buffer room) 7 rest))) }
-{
-    let small = pick(small_buffer(room), 7, rest);
-    let many = pick(many_revolutions(q), 6, small);
-    let time = pick(time_outside(q), 5, many);
-    pick(mu_outside(q), 4, time)
-}
-
-// Returns the number of the first check that applies, or 0 if none applies.
-pub(crate) fn first_fault(size: usize, room: usize, q: Question, shape: Shape) -> u16
-    ensures { result ≡ first_of (checks size room q shape) }
-{
-    let rest = number_fault(q, room, shape_fault(shape));
-    let radius = pick(geometry::radius_outside(shape), 3, rest);
-    let far = pick(positions_far(q), 2, radius);
-    pick(is_malformed(size, q), 1, far)
+    refuse_if(is_malformed(size, q), Fault::Malformed)?;
+    refuse_if(positions_far(q), Fault::PositionFar)?;
+    refuse_if(geometry::radius_outside(shape), Fault::RadiusOutside)?;
+    refuse_if(mu_outside(q), Fault::MuOutside)?;
+    refuse_if(time_outside(q), Fault::TimeOutside)?;
+    refuse_if(many_revolutions(q), Fault::ManyRevolutions)?;
+    refuse_if(small_buffer(room), Fault::SmallBuffer)?;
+    refuse_if(geometry::no_plane(shape), Fault::NoPlane)?;
+    refuse_if(geometry::short_chord(triangle), Fault::ShortChord)?;
+    refuse_if(geometry::flat_triangle(triangle), Fault::FlatTriangle)
 }

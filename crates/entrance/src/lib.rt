@@ -1,13 +1,13 @@
 // The entrance checks (01, Numbers of refusal). `judge` takes any bytes and the size of an answer
-// buffer. Its verdict is the number of the first fault, from 1 to 10, or the problem to solve.
+// buffer, and returns the problem to solve, or the first fault.
 #![tactic(auto)]
 
 ghost use Rattle.std.specs.Prelude.{◌≡◌};
-ghost use Rattle.entrance.specs.Judge.{problem_of, judge_of};
+ghost use Rattle.entrance.specs.Judge.{fault_number, problem_of, judge_of};
 
 mod checks;
 
-use checks::first_fault;
+use checks::check_all;
 use float64::Vector;
 use geometry::{Frame, Shape, Triangle};
 use records::Question;
@@ -28,28 +28,51 @@ pub struct Problem {
     pub wanted: f64,
 }
 
-// The verdict on a question: refused with the number of the first fault, or accepted as a problem
-// to solve.
-#[derive(Clone, Copy)]
-pub enum Judged {
-    Refused(u16),
-    Accepted(Problem),
+// What can be wrong with a question, in the order of the checks. Each fault has a number from 1 to 10.
+#[derive(Clone, Copy, Debug, PartialEq, Eq)]
+pub enum Fault {
+    Malformed,
+    PositionFar,
+    RadiusOutside,
+    MuOutside,
+    TimeOutside,
+    ManyRevolutions,
+    SmallBuffer,
+    NoPlane,
+    ShortChord,
+    FlatTriangle,
 }
 
-// Returns the verdict on the bytes of a question, for an answer buffer of `room` bytes.
-pub fn judge(question: &[u8], room: usize) -> Judged
+// The number of a fault in a record.
+impl From<Fault> for u16 {
+    ghost from_gives = { λ f n. n ≡ fault_number f };
+
+    fn from(fault: Fault) -> u16 {
+        match fault {
+            Fault::Malformed => 1,
+            Fault::PositionFar => 2,
+            Fault::RadiusOutside => 3,
+            Fault::MuOutside => 4,
+            Fault::TimeOutside => 5,
+            Fault::ManyRevolutions => 6,
+            Fault::SmallBuffer => 7,
+            Fault::NoPlane => 8,
+            Fault::ShortChord => 9,
+            Fault::FlatTriangle => 10,
+        }
+    }
+}
+
+// Returns the problem of a question, or its first fault, for an answer buffer of `room` bytes.
+pub fn judge(question: &[u8], room: usize) -> Result<Problem, Fault>
     ensures { result ≡ judge_of question.now room }
 {
     let q = records::read_question(question);
     let r1 = q.r1;
     let r2 = q.r2;
     let shape = geometry::shape_of(r1, r2, q.way == 1);
-    let fault = first_fault(question.len(), room, q, shape);
-    if fault == 0 {
-        Judged::Accepted(problem_of(q, shape))
-    } else {
-        Judged::Refused(fault)
-    }
+    check_all(question.len(), room, q, shape)?;
+    Ok(problem_of(q, shape))
 }
 
 // Returns the problem of a question, given its shape.

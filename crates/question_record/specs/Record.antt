@@ -1,4 +1,5 @@
 -- The record of a question: its answer or its refusal, with room for the longest answer (01, Records on the wire). Definitions only.
+use Rattle.std.specs.Prelude.{Result, Ok, Err}
 use Rattle.std.specs.Prelude.{ℕ, cond, List, eqb, ltb, length}
 use Rattle.little_endian.specs.Bytes.{written}
 use Rattle.records.specs.Layout.{answer_room, void_number, job_of, revision_of}
@@ -6,13 +7,13 @@ use Rattle.records.specs.Records.{refusal_with, refusal_bytes, answer_bytes}
 use Rattle.records.specs.declared.Refusal.{Refusal}
 use Rattle.hypergeometric.specs.Reasons.{reason_number}
 use Rattle.sweep.specs.declared.walks.VoidStation.{VoidStation}
-use Rattle.entrance.specs.Judge.{judge_of}
+use Rattle.entrance.specs.Judge.{fault_number, judge_of}
 use Rattle.entrance.specs.declared.Problem.{Problem}
-use Rattle.entrance.specs.declared.Judged.{Judged}
-use Rattle.entrance.specs.declared.Judged.TheVariants.{Refused, Accepted}
-use Rattle.solver.specs.declared.Outcome.{Outcome}
-use Rattle.solver.specs.declared.Outcome.TheVariants.{Refused, RefusedVoid, Answered}
+use Rattle.entrance.specs.declared.Fault.{Fault}
+use Rattle.solver.specs.declared.Cause.{Cause}
+use Rattle.solver.specs.declared.Cause.TheVariants.{StationVoid}
 use Rattle.solver.specs.Crossed.{entries_of}
+use Rattle.solver.specs.Table.{cause_number}
 use Rattle.solver.specs.Solve.{outcome_for}
 
 -- The refusal of a question with a number other than 12. It has the question's job and revision, or 0 for both if the number is 1.
@@ -29,16 +30,20 @@ void_refusal_for question station = record {
   reason = reason_number station.reason;
 }
 
+-- The refusal of a question, given its cause.
+abbrev pub cause_refusal : List ℕ → Cause → Refusal
+cause_refusal question (StationVoid station) = void_refusal_for question station
+cause_refusal question cause = refusal_for question (cause_number cause)
+
 -- The record of a question whose problem has the given outcome.
-abbrev pub outcome_record : List ℕ → Problem → Outcome → List ℕ
-outcome_record question p (Answered n) = answer_bytes p.job p.revision (entries_of p)
-outcome_record question p (Refused n) = refusal_bytes (refusal_for question n)
-outcome_record question p (RefusedVoid station) = refusal_bytes (void_refusal_for question station)
+abbrev pub outcome_record : List ℕ → Problem → Result ℕ Cause → List ℕ
+outcome_record question p (Ok n) = answer_bytes p.job p.revision (entries_of p)
+outcome_record question p (Err cause) = refusal_bytes (cause_refusal question cause)
 
 -- The record of a question, given the verdict of the entrance checks.
-abbrev pub record_after : List ℕ → Judged → List ℕ
-record_after question (Refused n) = refusal_bytes (refusal_for question n)
-record_after question (Accepted p) = outcome_record question p (outcome_for p)
+abbrev pub record_after : List ℕ → Result Problem Fault → List ℕ
+record_after question (Err fault) = refusal_bytes (refusal_for question (fault_number fault))
+record_after question (Ok p) = outcome_record question p (outcome_for p)
 
 -- The record of a question, judged with room for the longest answer.
 unfoldable pub record_of : List ℕ → List ℕ

@@ -2,14 +2,14 @@
 #![tactic(auto)]
 
 ghost use Rattle.std.specs.Prelude.{◌≡◌};
-ghost use Rattle.question_record.specs.Record.{refusal_for, void_refusal_for, output_of};
+ghost use Rattle.question_record.specs.Record.{refusal_for, void_refusal_for, cause_refusal, output_of};
 ghost use Rattle.little_endian.specs.Bytes.{written};
 ghost use Rattle.records.specs.Layout.{refusal_size};
 ghost use Rattle.records.specs.Records.{refusal_bytes};
 
 use hypergeometric::reason_number;
 use records::{ANSWER_ROOM, Refusal, VOID_NUMBER, refusal_with};
-use solver::{Outcome, solve};
+use solver::{Cause, solve};
 use sweep::VoidStation;
 
 // Writes the record of a question at the start of the buffer and returns its size. If the buffer has no room for the longest answer, it
@@ -22,9 +22,18 @@ pub fn write_record(question: &[u8], out: &mut [u8]) -> usize
         return 0;
     }
     match solve(question, out) {
-        Outcome::Answered(entries) => records::answer_size(entries),
-        Outcome::Refused(number) => put_refusal(out, refusal_for(question, number)),
-        Outcome::RefusedVoid(station) => put_refusal(out, void_refusal_for(question, station)),
+        Ok(entries) => records::answer_size(entries),
+        Err(cause) => put_refusal(out, cause_refusal(question, cause)),
+    }
+}
+
+// Returns the refusal of a question, given its cause.
+fn cause_refusal(question: &[u8], cause: Cause) -> Refusal
+    ensures { result ≡ cause_refusal question.now cause }
+{
+    match cause {
+        Cause::StationVoid(station) => void_refusal_for(question, station),
+        _ => refusal_for(question, u16::from(cause)),
     }
 }
 

@@ -2,7 +2,7 @@
 -- verdict of the entrance checks and, for an accepted question, on the first of the numbers 11 to 14 that applies, if
 -- any. Number 12 applies only if some station is void, and then the report about the stations names one.
 use mathlib.Core.Path.{◌≡◌, refl, sym, ap, ◌∙◌, subst}
-use mathlib.Core.Bool.{Bool, true, false, cond, ◌||◌, true≢false}
+use mathlib.Core.Bool.{Bool, true, false, ◌||◌, true≢false}
 use mathlib.Core.List.Memᴰ.{cases_cons as in-first}
 use mathlib.Core.List.Memᴰ.{not-nil as in-none}
 use mathlib.Core.List.{List, [], ◌∷◌, map, Memᴰ}
@@ -13,29 +13,28 @@ use native.Mathlib.Omega.{arith}
 use borrow.Author.Tests.{eqb-true, eqb-false, ne_eqb}
 use lib.Dec.{eqb, ltb}
 use lib.ListN.{length, length-map}
-use Rattle.question_record.specs.Record.{refusal_for, outcome_record, record_after, record_of}
+use Rattle.std.specs.Prelude.{Option, Some, None, Result, Ok, Err}
+use Rattle.question_record.specs.Record.{refusal_for, cause_refusal, outcome_record, record_after, record_of}
+use Rattle.question_record.proofs.Recorded.{plain_refusal}
 use Rattle.records.specs.Layout.{most_entries, answer_room, first_number, last_number, void_number, job_of}
 use Rattle.records.specs.Records.{question_of, refusal_bytes}
 use Rattle.records.specs.declared.Entry.{Entry}
 use Rattle.geometry.specs.Triangles.{shape_of}
 use Rattle.entrance.specs.Conditions.{malformed}
-use Rattle.entrance.specs.Judge.{checks, is_long_way, first_of, problem_of, judge_of}
+use Rattle.entrance.specs.Judge.{checks, is_long_way, first_of, fault_number, unless, problem_of, judge_of}
 use Rattle.entrance.specs.Table.{applies_in, condition_of}
 use Rattle.entrance.specs.declared.Problem.{Problem}
-use Rattle.entrance.specs.declared.Judged.{Judged}
-use Rattle.entrance.specs.declared.Judged.TheVariants.{Refused, Accepted}
-use Rattle.entrance.proofs.Table.{refused_exactly, accepted_exactly, accepted_problem, only_ten}
+use Rattle.entrance.specs.declared.Fault.{Fault}
+use Rattle.solver.specs.declared.Cause.{Cause}
+use Rattle.entrance.proofs.Table.{first_in, number_or_0, fault_positive, fault_most, fault_exactly, accepted_exactly, accepted_problem}
 use Rattle.bisection.specs.declared.Bracket.{Bracket}
-use Rattle.sweep.specs.declared.walks.Walk.{Walk}
 use Rattle.sweep.proofs.Counts.{length_is}
-use Rattle.sweep.proofs.Reports.{Agrees, none_void, some_void_lem}
 use Rattle.entries.specs.Entries.{entry_for}
 use Rattle.entries.proofs.Ends.{entry_names}
-use Rattle.solver.specs.Crossed.{sides_of, grid_of, last_place, seen_of, brackets_of, entries_of}
-use Rattle.solver.specs.Table.{crossing_count, any_void, all_finite, late_checks}
-use Rattle.solver.specs.Solve.{late_refusal, outcome_for}
-use Rattle.solver.specs.declared.Outcome.TheVariants.{Answered}
-use Rattle.solver.proofs.Numbering.{rows, rows_are, report_agrees, few}
+use Rattle.solver.specs.Crossed.{sides_of, grid_of, last_place, brackets_of, entries_of}
+use Rattle.solver.specs.Table.{cause_number, crossing_count, any_void, all_finite, late_checks}
+use Rattle.solver.specs.Solve.{outcome_for}
+use Rattle.solver.proofs.Numbering.{rows, rows_are, late_rows, late_number, few, station_seen, cause_positive, twelve_named}
 use Rattle.record_laws.specs.RecordForm.{RecordForm, malformed_question, refusal, void_refusal, answer}
 use Rattle.record_laws.proofs.VoidStations.{void_station}
 
@@ -50,14 +49,6 @@ late_number_lem false void true finite h = (omega arith, omega arith)
 late_number_lem false void false false h = (omega arith, omega arith)
 late_number_lem false void false true h = absurd (h refl)
 
--- Number 12 applies only if some station is void.
-twelve_void : (none void ninth finite : Bool) → rows none void ninth finite ≡ void_number → void ≡ true
-twelve_void none true ninth finite e = refl
-twelve_void true false ninth finite e = absurd (omega (arith, e))
-twelve_void false false true finite e = absurd (omega (arith, e))
-twelve_void false false false false e = absurd (omega (arith, e))
-twelve_void false false false true e = absurd (omega (arith, e))
-
 -- If none of them applies, there is a crossing.
 some_crossing : (none void ninth finite : Bool) → rows none void ninth finite ≡ 0 → none ≡ false
 some_crossing false void ninth finite e = refl
@@ -69,26 +60,28 @@ module _ (p : Problem) where
   unfolding entries_of brackets_of
   size_is = length-map (brackets_of p) (entry_for p) ∙ length_is (sides_of p) (grid_of p) (last_place p)
 
-  at_least_one : first_of (late_checks p) ≡ 0 → 1 ≤ length (entries_of p)
+  at_least_one : first_in (late_rows p) ≡ 0 → 1 ≤ length (entries_of p)
   at_least_one e =
       let row = sym (rows_are p) ∙ e in
       let some = some_crossing (eqb (crossing_count p) 0) (any_void p) (ltb most_entries (crossing_count p)) (all_finite p) row in
       lt_of_not-le (λ h. eqb-false (crossing_count p) 0 some (omega (arith, h, size_is)))
 
-  at_most_eight : first_of (late_checks p) ≡ 0 → length (entries_of p) ≤ most_entries
+  at_most_eight : first_in (late_rows p) ≡ 0 → length (entries_of p) ≤ most_entries
   at_most_eight e = omega (arith, few p e, size_is)
 
-  late_between : (first_of (late_checks p) ≡ 0 → ⊥) → (first_number < first_of (late_checks p)) × (first_of (late_checks p) ≤ last_number)
+  late_between : (first_in (late_rows p) ≡ 0 → ⊥) → (first_number < first_in (late_rows p)) × (first_in (late_rows p) ≤ last_number)
   late_between h =
       rw (rows_are p)
       (late_number_lem (eqb (crossing_count p) 0) (any_void p) (ltb most_entries (crossing_count p)) (all_finite p) (λ z. h (rows_are p
       ∙ z)))
 
-  not_twelve : any_void p ≡ false → first_of (late_checks p) ≡ void_number → ⊥
-  not_twelve timed e =
-      let row = sym (rows_are p) ∙ e in
-      let void = twelve_void (eqb (crossing_count p) 0) (any_void p) (ltb most_entries (crossing_count p)) (all_finite p) row in
-      true≢false (sym void ∙ timed)
+  -- The cause of a refusal from 11 to 14 has a number above 1 and in 01's table.
+  cause_between : (cause : Cause) → first_of (late_checks p) ≡ Some cause
+      → (first_number < cause_number cause) × (cause_number cause ≤ last_number)
+  cause_between cause e =
+      let n : first_in (late_rows p) ≡ cause_number cause = late_number p ∙ ap (number_or_0 cause_number) e in
+      let most = late_between (λ z. omega (arith, z, n, cause_positive cause)) in
+      (omega (arith, n, most.0), omega (arith, n, most.1))
 
   -- The chosen end of each entry is 0 or 1.
   each_names : (rs : List Bracket) (e : Entry) → Memᴰ e (map (entry_for p) rs) → e.chosen ≤ 1
@@ -121,65 +114,53 @@ module _ (s : List ℕ) where
   unfolding refusal_for
   refusal_form n low high other job = rw (ne_eqb n 1 (λ e. omega (arith, e, low))) (refusal n low high other job)
 
-  -- The question's own problem (`own`), and the number of the first entrance check that applies (`first_check`).
+  -- The question's own problem.
   abbrev own : Problem
   own = let q = question_of s in problem_of q (shape_of q.r1 q.r2 (is_long_way q))
 
-  abbrev first_check : ℕ
-  first_check = let q = question_of s in first_of (checks (length s) answer_room q (shape_of q.r1 q.r2 (is_long_way q)))
-
-  positive : (n : ℕ) → judge_of s answer_room ≡ Refused n → 0 < n
-  unfolding judge_of
-  positive n e = by (eqb first_check 0) refl e
-    where
-      by : (none : Bool) → eqb first_check 0 ≡ none → cond none (Accepted own) (Refused first_check) ≡ Refused n → 0 < n
-      by true t f = absurd (let z : ◌≡◌ {A = ℕ} 0 1 = cc f in omega (arith, z))
-      by false t f = let same : first_check ≡ n = cc f in lt_of_not-le (λ h. eqb-false first_check 0 t (omega (arith, same, h)))
-
-  by_number : (n : ℕ) → judge_of s answer_room ≡ Refused n → (one : Bool) → eqb n 1 ≡ one → RecordForm s (refusal_bytes (refusal_for s n))
+  by_fault : (f : Fault) → judge_of s answer_room ≡ Err f → (one : Bool) → eqb (fault_number f) 1 ≡ one
+      → RecordForm s (refusal_bytes (refusal_for s (fault_number f)))
   unfolding refusal_for
-  by_number n e true one = rw (eqb-true n 1 one) malformed_question
-  by_number n e false one =
-      let first = (refused_exactly s answer_room n (positive n e)).only e in
-      let other : n ≡ 1 → ⊥ = eqb-false n 1 one in
-      let late : 1 < n = lt_of_not-le (λ h. other (omega (arith, h, positive n e))) in
-      let early : n ≤ 10 = (only_ten s answer_room n first.own).1 in
-      refusal_form n late (omega (arith, early)) (λ z. omega (arith, z, early)) (past_one (first.none_earlier 1 late))
+  by_fault f e true one = rw (eqb-true (fault_number f) 1 one) malformed_question
+  by_fault f e false one =
+      let first = (fault_exactly s answer_room f).only e in
+      let other : fault_number f ≡ 1 → ⊥ = eqb-false (fault_number f) 1 one in
+      let late : 1 < fault_number f = lt_of_not-le (λ h. other (omega (arith, h, fault_positive f))) in
+      let early = fault_most f in
+      refusal_form (fault_number f) late (omega (arith, early)) (λ z. omega (arith, z, early)) (past_one (first.none_earlier 1 late))
 
-  -- The number of the first of the rows 11 to 14 that applies, or 0.
-  abbrev late_row : ℕ
-  late_row = first_of (late_checks own)
-
-  late_form : (late_row ≡ 0 → ⊥) → 0 < job_of s → {seen : Walk} {void : Bool} → Agrees seen void → seen_of own ≡ seen
-      → any_void own ≡ void →
-      (twelve : Bool) → eqb late_row void_number ≡ twelve → RecordForm s (outcome_record s own (late_refusal late_row seen))
+  -- The record of a refusal with a cause from 11 to 14: number 12 names a station, and the others do not.
+  cause_form : 0 < job_of s → (cause : Cause) → first_of (late_checks own) ≡ Some cause
+      → RecordForm s (refusal_bytes (cause_refusal s cause))
   unfolding problem_of question_of
-  late_form some job none_void e timed true t = absurd (not_twelve own timed (eqb-true late_row void_number t))
-  late_form some job none_void e timed false t =
-      let number = late_between own some in
-      refusal_form late_row number.0 number.1 (eqb-false late_row void_number t) job
-  late_form some job (some_void_lem station) e void true t = rw t (void_refusal station (void_station own station e) job)
-  late_form some job (some_void_lem station) e void false t =
-      let number = late_between own some in
-      rw t (refusal_form late_row number.0 number.1 (eqb-false late_row void_number t) job)
+  cause_form job cause e = by (eqb (cause_number cause) void_number) refl
+    where
+      by : (twelve : Bool) → eqb (cause_number cause) void_number ≡ twelve → RecordForm s (refusal_bytes (cause_refusal s cause))
+      by true t =
+          let v = twelve_named cause (eqb-true (cause_number cause) void_number t) in
+          rw v.1 (void_refusal v.0 (void_station own v.0 (station_seen own v.0 (e ∙ ap Some v.1))) job)
+      by false t =
+          let other : cause_number cause ≡ void_number → ⊥ = eqb-false (cause_number cause) void_number t in
+          let number = cause_between own cause e in
+          rw (plain_refusal s cause other) (refusal_form (cause_number cause) number.0 number.1 other job)
 
-  by_row : 0 < job_of s → (none : Bool) → eqb late_row 0 ≡ none →
-      RecordForm s (outcome_record s own (cond none (Answered (length (entries_of own))) (late_refusal late_row (seen_of own))))
+  by_cause : 0 < job_of s → (o : Option Cause) → first_of (late_checks own) ≡ o →
+      RecordForm s (outcome_record s own (unless o (length (entries_of own))))
   unfolding problem_of question_of
-  by_row job true t =
-      let none = eqb-true late_row 0 t in
+  by_cause job None e =
+      let none = late_number own ∙ ap (number_or_0 cause_number) e in
       answer (entries_of own) (at_least_one own none) (at_most_eight own none) (all_name own) job
-  by_row job false t = late_form (eqb-false late_row 0 t) job (report_agrees own) refl refl (eqb late_row void_number) refl
+  by_cause job (Some cause) e = cause_form job cause e
 
-  accepted_form : judge_of s answer_room ≡ Accepted own → RecordForm s (record_after s (Accepted own))
+  accepted_form : judge_of s answer_room ≡ Ok own → RecordForm s (record_after s (Ok own))
   unfolding outcome_for
-  accepted_form e = by_row (past_one ((accepted_exactly s answer_room).only e 1)) (eqb late_row 0) refl
+  accepted_form e = by_cause (past_one ((accepted_exactly s answer_room).only e 1)) (first_of (late_checks own)) refl
 
-  by_verdict : (j : Judged) → judge_of s answer_room ≡ j → RecordForm s (record_after s j)
-  by_verdict (Refused n) e = by_number n e (eqb n 1) refl
-  by_verdict (Accepted p) e =
+  by_verdict : (j : Result Problem Fault) → judge_of s answer_room ≡ j → RecordForm s (record_after s j)
+  by_verdict (Err f) e = by_fault f e (eqb (fault_number f) 1) refl
+  by_verdict (Ok p) e =
       let is-own : p ≡ own = accepted_problem s answer_room p e in
-      subst (λ (x : Problem). RecordForm s (record_after s (Accepted x))) (sym is-own) (accepted_form (e ∙ ap Accepted is-own))
+      subst (λ (x : Problem). RecordForm s (record_after s (Ok x))) (sym is-own) (accepted_form (e ∙ ap Ok is-own))
 
   pub record_form : RecordForm s (record_of s)
   unfolding record_of

@@ -5,7 +5,7 @@
 
 ghost use Rattle.std.specs.Prelude.{◌<◌, ◌≤◌};
 
-use entrance::{Judged, Problem};
+use entrance::{Fault, Problem};
 use float64::Vector;
 use geometry::{Frame, Triangle};
 use std::io;
@@ -61,10 +61,10 @@ fn print_problem(rt: &impl Print, p: Problem) -> io::Result<()> {
 }
 
 // Writes the line.
-fn print_judged(rt: &impl Print, judged: Judged) -> io::Result<()> {
+fn print_judged(rt: &impl Print, judged: Result<Problem, Fault>) -> io::Result<()> {
     match judged {
-        Judged::Refused(number) => { println!(rt; "{number}") }
-        Judged::Accepted(problem) => {
+        Err(fault) => { println!(rt; "{}", u16::from(fault)) }
+        Ok(problem) => {
             print!(rt; "0")?;
             print_problem(rt, problem)?;
             println!(rt; "")
@@ -91,7 +91,7 @@ fn question_end(size: usize) -> usize
     }
 }
 
-fn judge_frame(frame: &[u8; FRAME_SIZE]) -> Judged {
+fn judge_frame(frame: &[u8; FRAME_SIZE]) -> Result<Problem, Fault> {
     let end = question_end(number(frame[0], frame[1]));
     let room = number(frame[2], frame[3]);
     let bytes = &frame[..];

@@ -9,7 +9,7 @@ use Rattle.records.specs.Layout.{refusal_size, answer_room}
 use Rattle.records.specs.Records.{refusal_bytes}
 use Rattle.records.specs.declared.Refusal.{Refusal}
 use Rattle.records.proofs.Sizes.{refusal_length}
-use Rattle.question_record.proofs.Recorded.{when_answered, when_refused, when_void, no_room, has_room}
+use Rattle.question_record.proofs.Recorded.{when_answered, when_refused, no_room, has_room}
 use Rattle.question_record.proofs.write_record.Goals as goal
 
 -- What a call returns and leaves in the buffer is the output of the definition.
@@ -33,33 +33,23 @@ returns-then-out-lt-ANSWER_ROOM c =
     let e = no_room a.question.now a.out.now c.if-out-lt-ANSWER_ROOM.true in
     record { size = sym (ap (λ (r : Output). r.size) e); buffer = sym (ap (λ (r : Output). r.buffer) e) }
 
-pub returns-in-Answered : goal.returns-in-Answered
-returns-in-Answered c =
+pub returns-in-Ok : goal.returns-in-Ok
+returns-in-Ok c =
     let a = c.args in
     let room = c.if-out-lt-ANSWER_ROOM.false in
     let e = has_room a.question.now a.out.now room in
-    let w = when_answered a.question.now a.out.now room _ (sym c.solve.ensures.outcome ∙ c.in-Answered.is) in
+    let w = when_answered a.question.now a.out.now room _ (sym c.solve.ensures.outcome ∙ c.in-Ok.is) in
     record {
       size = c.answer_size.ensures ∙ sym w.1 ∙ sym (ap (λ (r : Output). r.size) e);
       buffer = c.solve.ensures.buffer ∙ w.0 ∙ sym (ap (λ (r : Output). r.buffer) e);
     }
 
-pub returns-in-Refused : goal.returns-in-Refused
-returns-in-Refused c =
+pub returns-in-Err : goal.returns-in-Err
+returns-in-Err c =
     let a = c.args in
     let q = a.question.now in
     let room = c.if-out-lt-ANSWER_ROOM.false in
-    let w = when_refused q a.out.now room _ (sym c.solve.ensures.outcome ∙ c.in-Refused.is) in
-    let both = put_over q a.out.now room _ w.1 _ c.refusal_for.ensures _ (c.solve.ensures.buffer ∙ w.0)
+    let w = when_refused q a.out.now room _ (sym c.solve.ensures.outcome ∙ c.in-Err.is) in
+    let both = put_over q a.out.now room _ w.1 _ c.cause_refusal.ensures _ (c.solve.ensures.buffer ∙ w.0)
     _ c.put_refusal.ensures.size _ c.put_refusal.ensures.buffer in
-    record { size = both.0; buffer = both.1 }
-
-pub returns-in-RefusedVoid : goal.returns-in-RefusedVoid
-returns-in-RefusedVoid c =
-    let a = c.args in
-    let q = a.question.now in
-    let room = c.if-out-lt-ANSWER_ROOM.false in
-    let w = when_void q a.out.now room _ (sym c.solve.ensures.outcome ∙ c.in-RefusedVoid.is) in
-    let both = put_over q a.out.now room _ w.1 _ c.void_refusal_for.ensures _ (c.solve.ensures.buffer ∙ w.0)
-    _ c.put_refusal-in-RefusedVoid.ensures.size _ c.put_refusal-in-RefusedVoid.ensures.buffer in
     record { size = both.0; buffer = both.1 }

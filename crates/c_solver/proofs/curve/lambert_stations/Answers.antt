@@ -3,11 +3,11 @@ use mathlib.Core.Path.{sym}
 use Rattle.c_solver.specs.Curve.{station_count}
 use Rattle.c_solver.proofs.curve.lambert_stations.Goals as goal
 
-pub returns-in-Refused : goal.returns-in-Refused
+pub returns-in-Err : goal.returns-in-Err
 unfolding station_count
-returns-in-Refused c = simp (sym c.judge.ensures, c.in-Refused.is)
+returns-in-Err c = simp (sym c.judge.ensures, c.in-Err.is)
 
-pub returns-in-Accepted : goal.returns-in-Accepted
+pub returns-in-Ok : goal.returns-in-Ok
 unfolding station_count
-returns-in-Accepted c =
-    simp (sym c.judge.ensures, c.in-Accepted.is, c.last_station.ensures)
+returns-in-Ok c =
+    simp (sym c.judge.ensures, c.in-Ok.is, c.last_station.ensures)

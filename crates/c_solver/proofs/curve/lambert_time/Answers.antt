@@ -4,16 +4,16 @@ use mir.Facts.{to_z-of_z}
 use Rattle.c_solver.specs.Curve.{time_bits}
 use Rattle.c_solver.proofs.curve.lambert_time.Goals as goal
 
-pub returns-in-Refused : goal.returns-in-Refused
+pub returns-in-Err : goal.returns-in-Err
 unfolding time_bits
-returns-in-Refused c = simp (sym c.judge.ensures, c.in-Refused.is)
+returns-in-Err c = simp (sym c.judge.ensures, c.in-Err.is)
 
-pub returns-in-Accepted : goal.returns-in-Accepted
+pub returns-in-Ok : goal.returns-in-Ok
 unfolding time_bits
-returns-in-Accepted c =
+returns-in-Ok c =
     simp (
       sym c.judge.ensures,
-      c.in-Accepted.is,
+      c.in-Ok.is,
       c.place_bits.ensures,
       c.place_at.ensures,
       to_z-of_z c.ranges.k,

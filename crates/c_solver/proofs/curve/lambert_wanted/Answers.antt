@@ -3,11 +3,11 @@ use mathlib.Core.Path.{sym}
 use Rattle.c_solver.specs.Curve.{wanted_bits}
 use Rattle.c_solver.proofs.curve.lambert_wanted.Goals as goal
 
-pub returns-in-Refused : goal.returns-in-Refused
+pub returns-in-Err : goal.returns-in-Err
 unfolding wanted_bits
-returns-in-Refused c = simp (sym c.judge.ensures, c.in-Refused.is)
+returns-in-Err c = simp (sym c.judge.ensures, c.in-Err.is)
 
-pub returns-in-Accepted : goal.returns-in-Accepted
+pub returns-in-Ok : goal.returns-in-Ok
 unfolding wanted_bits
-returns-in-Accepted c =
-    simp (sym c.judge.ensures, c.in-Accepted.is, c.to_bits.ensures)
+returns-in-Ok c =
+    simp (sym c.judge.ensures, c.in-Ok.is, c.to_bits.ensures)
