@@ -3,63 +3,70 @@
 // prints a message to standard error and stops.
 #![tactic(auto)]
 
-ghost use Rattle.lambert.specs.Following.{Follows};
+ghost use Rattle.std.specs.Prelude.{IfSome};
+ghost use Rattle.slot_records.specs.Inputs.{slot_record};
+ghost use Rattle.lambert.specs.Following.{Follows, Grows, SlotAnswered, InputAnswered};
 
 use records::{ANSWER_ROOM, QUESTION_ROOM};
-use standard_input::Got;
 use std::io::{Read, Write};
+use std::{fmt, io};
 
-// What follows a slot: another slot may follow, no slot follows, or reading the slot or writing its record failed.
+// Why the program stops before the end of its input: a read or a write failed.
 #[derive(Clone, Copy)]
-enum Next {
-    Another,
-    Last,
-    Failed,
+enum Failure {
+    Read(io::Error),
+    Write(io::Error),
 }
 
-// The prover requires a bound on the loop. The input has none, so the bound is a count that no input reaches.
+impl fmt::Display for Failure {
+    fn fmt<W: fmt::Write>(&self, f: &mut fmt::Formatter<W>) -> fmt::Result {
+        match self {
+            Failure::Read(error) => write!(f, "standard input cannot be read: {error}"),
+            Failure::Write(error) => write!(f, "standard output cannot be written: {error}"),
+        }
+    }
+}
+
 fn main(rt: HostRuntime) {
     let mut input = rt.stdin();
     let mut output = rt.stdout();
+    if let Err(failure) = answer_all(&mut input, &mut output) {
+        let _ = eprintln!(rt; "lambert: {failure}");
+    }
+}
+
+// Answers every slot of the input and returns whether another may follow. The prover requires a bound on the loop. The input has none, so
+// the bound is a count that no input reaches.
+fn answer_all<R: Read, W: Write>(input: &mut R, output: &mut W) -> Result<bool, Failure>
+    ensures { IfSome (R.remaining input.old)
+        (λ xs. InputAnswered xs (W.contents output.old) (W.contents output.new) result) }
+{
     for _ in 0..u64::MAX {
-        match answer_one(&rt, &mut input, &mut output) {
-            Next::Another => {}
-            Next::Last => {
-                return;
-            }
-            Next::Failed => {
-                return;
-            }
+        if !answer_one(input, output)? {
+            return Ok(false);
         }
     }
+    Ok(true)
 }
 
-// Reads one slot, answers it, and returns what follows.
-fn answer_one(rt: &impl Eprint, input: &mut impl Read, output: &mut impl Write) -> Next {
+// Reads one slot, answers it, and returns whether another may follow.
+fn answer_one<R: Read, W: Write>(input: &mut R, output: &mut W) -> Result<bool, Failure>
+    ensures { IfSome (R.remaining input.old) (λ xs. SlotAnswered xs
+        (R.remaining input.new) (W.contents output.old) (W.contents output.new) result) }
+{
     let mut slot = [0u8; QUESTION_ROOM];
-    match standard_input::fill(input, &mut slot) {
-        Got::Bytes(n) => answer(rt, output, &slot[..n]),
-        Got::Failed(error) => {
-            let _ = eprintln!(rt; "lambert: standard input cannot be read: {error}");
-            Next::Failed
-        }
-    }
+    let n = standard_input::fill(input, &mut slot).map_err(Failure::Read)?;
+    answer(output, &slot[..n])
 }
 
-// Writes the output for a slot, of which the bytes `came` were read, and returns what follows.
-fn answer(rt: &impl Eprint, output: &mut impl Write, came: &[u8]) -> Next
-    ensures { Follows came.now result }
+// Writes the output for a slot, of which the bytes `came` were read, and returns whether another slot may follow.
+fn answer<W: Write>(output: &mut W, came: &[u8]) -> Result<bool, Failure>
+    ensures follows { Follows came.now result }
+    ensures output { Grows (W.contents output.old) (W.contents output.new) (slot_record came.now) result }
 {
     let mut out = [0u8; ANSWER_ROOM];
     let reply = slot_records::answer_slot(came, &mut out);
     let size = reply.size;
-    if let Err(error) = output.write_all(&out[..size]) {
-        let _ = eprintln!(rt; "lambert: standard output cannot be written: {error}");
-        return Next::Failed;
-    }
-    if reply.another {
-        Next::Another
-    } else {
-        Next::Last
-    }
+    output.write_all(&out[..size]).map_err(Failure::Write)?;
+    Ok(reply.another)
 }

@@ -3,7 +3,7 @@
 // end of the input cuts short gets number 1 too. If a read or write fails, `link` prints a message to standard error and stops.
 #![tactic(auto)]
 
-ghost use Rattle.std.specs.Prelude.{◌≡◌, true, ◌≤◌, length};
+ghost use Rattle.std.specs.Prelude.{◌≡◌, ◌≤◌, length, OnOk};
 ghost use Rattle.records.specs.Layout.{question_room};
 ghost use Rattle.link_reader.specs.Reading.{size_given};
 ghost use Rattle.link.specs.Pieces.{reader_after};
@@ -11,130 +11,93 @@ ghost use Rattle.link.specs.Pieces.{reader_after};
 use link_reader::{Reader, Refusal, Step};
 use little_endian::u16_at;
 use records::{ANSWER_ROOM, QUESTION_ROOM};
-use standard_input::Got;
 use std::io;
 use std::io::{Read, Write};
 
 // The size of the longest piece.
 const LONGEST: usize = 65535;
 
-// The size of the next piece, the end of the input, or a failed read.
-#[derive(Clone, Copy)]
-enum Size {
-    Bytes(u16),
-    End,
-    Failed(io::Error),
-}
-
-// The reader after some input, whether to read more, and whether the input has ended.
-#[derive(Clone, Copy)]
-struct Fed {
-    reader: Reader,
-    more: bool,
-    ended: bool,
-}
+// Reading stopped before the end of the input: a read or a write failed, a length is not in force, or the reader needs a reset. What is to
+// be said of it is on standard error already.
+#[derive(Clone, Copy, Debug, PartialEq, Eq)]
+struct Stopped;
 
 fn main(rt: HostRuntime) {
     let mut input = rt.stdin();
     let mut output = rt.stdout();
-    let fed = read_pieces(&rt, &mut input, &mut output);
-    let reader = fed.reader;
-    if fed.ended {
+    let mut reader = Reader::new();
+    if read_pieces(&rt, &mut input, &mut output, &mut reader) == Ok(false) {
         answer_kept(&rt, &mut output, reader);
     }
 }
 
-// Reads and feeds every piece. The prover requires a bound on the loop. The input has none, so the bound is a count that no input
-// reaches.
-fn read_pieces(rt: &impl Eprint, input: &mut impl Read, output: &mut impl Write) -> Fed {
+// Reads and feeds every piece, and returns whether another may follow. The prover requires a bound on the loop. The input has none, so the
+// bound is a count that no input reaches.
+fn read_pieces(
+    rt: &impl Eprint,
+    input: &mut impl Read,
+    output: &mut impl Write,
+    reader: &mut Reader,
+) -> Result<bool, Stopped> {
     let mut bytes = [0u8; LONGEST];
-    let new = Reader::new();
-    let mut fed = Fed {
-        reader: new,
-        more: true,
-        ended: false,
-    };
     for _ in 0..u64::MAX {
-        if !fed.more {
-            break;
+        if !read_piece(rt, input, output, reader, &mut bytes)? {
+            return Ok(false);
         }
-        let reader = fed.reader;
-        fed = read_piece(rt, input, output, reader, &mut bytes);
     }
-    fed
+    Ok(true)
 }
 
-// Reads and feeds the next piece.
+// Reads and feeds the next piece, and returns whether another may follow.
 fn read_piece(
     rt: &impl Eprint,
     input: &mut impl Read,
     output: &mut impl Write,
-    reader: Reader,
-    bytes: &mut [u8],
-) -> Fed
-    requires { length bytes.old ≡ 65535 }
-{
+    reader: &mut Reader,
+    bytes: &mut [u8; LONGEST],
+) -> Result<bool, Stopped> {
     match read_size(rt, input) {
-        Size::Bytes(size) => read_bytes(rt, input, output, reader, bytes, size as usize),
-        Size::End => Fed {
-            reader,
-            more: false,
-            ended: true,
-        },
-        Size::Failed(error) => cannot_read(rt, reader, error),
+        Ok(Some(size)) => read_bytes(rt, input, output, reader, bytes, usize::from(size)),
+        Ok(None) => Ok(false),
+        Err(error) => Err(cannot_read(rt, error)),
     }
 }
 
-fn read_size(rt: &impl Eprint, input: &mut impl Read) -> Size {
+// Reads the size of the next piece, or None at the end of the input. A message says so if the input ends within the size.
+fn read_size(rt: &impl Eprint, input: &mut impl Read) -> io::Result<Option<u16>> {
     let mut head = [0u8; 2];
-    match standard_input::fill(input, &mut head) {
-        Got::Bytes(n) => size_of(rt, &head, n),
-        Got::Failed(error) => Size::Failed(error),
+    let n = standard_input::fill(input, &mut head)?;
+    if n == head.len() {
+        return Ok(Some(u16_at(&head, 0)));
     }
-}
-
-// Returns the size of a piece from the two bytes in `head`, of which n were read. If n is below 2 the input has ended; if n is 1 it has
-// ended within a piece, and a message says so.
-fn size_of(rt: &impl Eprint, head: &[u8], n: usize) -> Size {
-    if n == 0 {
-        return Size::End;
-    }
-    if n < 2 {
+    if 0 < n {
         say_cut(rt);
-        return Size::End;
     }
-    Size::Bytes(u16_at(head, 0))
+    Ok(None)
 }
 
-// Reads the bytes of a piece and feeds them to the reader. If the end of the input cuts the piece short, the bytes before it are fed.
+// Reads the bytes of a piece, feeds them to the reader, and returns whether another piece may follow. If the end of the input cuts the
+// piece short, the bytes before it are fed, and a message says so.
 fn read_bytes(
     rt: &impl Eprint,
     input: &mut impl Read,
     output: &mut impl Write,
-    reader: Reader,
+    reader: &mut Reader,
     bytes: &mut [u8],
     size: usize,
-) -> Fed
+) -> Result<bool, Stopped>
     requires { size ≤ length bytes.old }
 {
     match standard_input::fill(input, &mut bytes[..size]) {
-        Got::Bytes(n) => {
+        Ok(n) => {
             let fed = feed(rt, output, reader, &bytes[..n]);
-            if n < size { cut_short(rt, fed) } else { fed }
+            if n < size {
+                say_cut(rt);
+            }
+            fed?;
+            Ok(n == size)
         }
-        Got::Failed(error) => cannot_read(rt, reader, error),
-    }
-}
-
-// Prints that the end of the input cut a piece short, and stops reading. `ended` is true in the result unless feeding had already
-// stopped.
-fn cut_short(rt: &impl Eprint, fed: Fed) -> Fed {
-    say_cut(rt);
-    let reader = fed.reader;
-    Fed {
-        reader,
-        more: false,
-        ended: fed.more,
+        Err(error) => Err(cannot_read(rt, error)),
     }
 }
 
@@ -142,44 +105,35 @@ fn say_cut(rt: &impl Eprint) {
     let _ = eprintln!(rt; "link: the input ends within a piece");
 }
 
-fn cannot_read(rt: &impl Eprint, reader: Reader, error: io::Error) -> Fed {
+fn cannot_read(rt: &impl Eprint, error: io::Error) -> Stopped {
     let _ = eprintln!(rt; "link: standard input cannot be read: {error}");
-    Fed {
-        reader,
-        more: false,
-        ended: false,
-    }
+    Stopped
 }
 
 // Passes in a piece, and passes in again the bytes that a call did not take. Each call takes at least one byte while some are left and no
-// reset is needed, so one call more than the piece has bytes is enough. If more is to be read, the returned reader is the one after the
-// whole piece.
-fn feed(rt: &impl Eprint, output: &mut impl Write, reader: Reader, piece: &[u8]) -> Fed
-    ensures { result.more ≡ true → result.reader ≡ reader_after reader piece.now }
+// reset is needed, so one call more than the piece has bytes is enough. Unless reading stops, the reader is then the one after the whole
+// piece.
+fn feed(
+    rt: &impl Eprint,
+    output: &mut impl Write,
+    reader: &mut Reader,
+    piece: &[u8],
+) -> Result<(), Stopped>
+    ensures { OnOk result (reader.new ≡ reader_after reader.old piece.now) }
 {
-    let mut fed = Fed {
-        reader,
-        more: true,
-        ended: false,
-    };
-    let mut at = 0;
-    let mut calls = piece.len() + 1;
-    while calls > 0 && fed.more {
-        let now = fed.reader;
-        let step = now.read(&piece[at..]);
-        let next = step.next;
-        at += step.taken;
-        fed = Fed {
-            reader: next,
-            more: answer_step(rt, output, step),
-            ended: false,
-        };
-        if at == piece.len() {
-            return fed;
+    let mut rest = piece;
+    for _ in 0..=piece.len() {
+        let step = reader.read(rest);
+        *reader = step.next;
+        rest = &rest[step.taken..];
+        if !answer_step(rt, output, step) {
+            return Err(Stopped);
         }
-        calls -= 1;
+        if rest.is_empty() {
+            return Ok(());
+        }
     }
-    fed
+    Ok(())
 }
 
 // Writes the record for the result of a call, if it needs one, and returns whether to go on.

@@ -4,140 +4,150 @@
 // writing a board. If a write fails, it prints a message to standard error too.
 #![tactic(auto)]
 
-ghost use Rattle.std.specs.Prelude.{◌≡◌, ◌≤◌, length, take};
+ghost use Rattle.std.specs.Prelude.{◌≡◌, ◌≤◌, length, take, IfSome};
 ghost use Rattle.records.specs.Layout.{LENGTH, answer_room};
-ghost use Rattle.record_stream.specs.Streams.{longest_rest};
-ghost use Rattle.post.specs.declared.Next.TheVariants.{Failed};
+ghost use Rattle.record_stream.specs.Streams.{longest_rest, start_of};
 ghost use Rattle.post.specs.Posting.{AfterRest, AfterHead, AfterNext, Postings};
+ghost use Rattle.post.specs.Posting.{RestRead, HeadRead, RecordRead, InputRead, BoardWritten};
 
 use board::{BOARD_SIZE, PostError};
 use record_stream::{REASON_ROOM, Start};
 use records::{ANSWER_ROOM, LENGTH_SIZE};
-use standard_input::Got;
 use std::io;
-use std::io::Read;
-use std::num::wrapping_add_u64;
+use std::io::{Read, Write};
 
-// What comes next: a record at the given byte offset of the input, the end of the input, or a failure. After a failure
-// the rest of the input is not read.
+// Why no board is written: a read or a write failed, or the length of the record at the given byte offset is above that
+// of the longest record. The rest of the input is not read.
 #[derive(Clone, Copy)]
-enum Next {
-    At(u64),
-    End,
-    Failed,
+enum Failure {
+    Read(io::Error),
+    Write(io::Error),
+    Length(u64),
 }
 
 // Records come from standard input, the board goes to standard output, and messages go to standard error.
 fn main(rt: HostRuntime) {
     let mut input = rt.stdin();
-    let output = rt.stdout();
+    let mut output = rt.stdout();
     let errors = rt.stderr();
-    let mut board = [0u8; BOARD_SIZE];
-    if post_all(&errors, &mut input, &mut board) {
-        if let Err(error) = output.write_all(&board) {
-            let _ = println!(&errors; "post: standard output cannot be written: {error}");
-        }
+    if let Err(failure) = post_input(&errors, &mut input, &mut output) {
+        tell_failure(&errors, failure);
     }
+}
+
+// Posts the records of the input on a board that starts as all zeros, writes the board, and reports whether the input was
+// read to its end.
+fn post_input<R: Read, W: Write>(
+    errors: &impl Print,
+    input: &mut R,
+    output: &mut W,
+) -> Result<bool, Failure>
+    ensures { IfSome (R.remaining input.old)
+        (λ xs. BoardWritten xs (W.contents output.old) (W.contents output.new) result) }
+{
+    let mut board = [0u8; BOARD_SIZE];
+    if !post_all(errors, input, &mut board)? {
+        return Ok(false);
+    }
+    output.write_all(&board).map_err(Failure::Write)?;
+    Ok(true)
 }
 
 // Posts every record and reports whether the input was read to its end. The prover requires a bound on the loop. The
 // input has none, so the bound is a count that no input reaches.
-fn post_all(errors: &impl Print, input: &mut impl Read, board: &mut [u8]) -> bool
-    ensures { Postings board.old board.new }
+fn post_all<R: Read>(errors: &impl Print, input: &mut R, board: &mut [u8]) -> Result<bool, Failure>
+    ensures postings { Postings board.old board.new }
+    ensures input { IfSome (R.remaining input.old) (λ xs. InputRead xs board.old board.new result) }
 {
     let mut bytes = [0u8; ANSWER_ROOM];
     let mut place: u64 = 0;
     for _ in 0..u64::MAX {
-        match post_next(errors, input, board, &mut bytes, place) {
-            Next::At(next) => {
-                place = next;
-            }
-            Next::End => {
-                return true;
-            }
-            Next::Failed => {
-                return false;
-            }
+        match post_next(errors, input, board, &mut bytes, place)? {
+            Some(next) => place = next,
+            None => return Ok(true),
         }
     }
-    false
+    Ok(false)
 }
 
-// Posts the record at byte offset `place` of the input. Reads it into `bytes`: first its length field, then the rest.
-fn post_next(
+// Posts the record at byte offset `place` of the input, and returns the offset of the next one, or None at the end of the
+// input. Reads the record into `bytes`: first its length field, then the rest.
+fn post_next<R: Read>(
     errors: &impl Print,
-    input: &mut impl Read,
+    input: &mut R,
     board: &mut [u8],
     bytes: &mut [u8],
     place: u64,
-) -> Next
+) -> Result<Option<u64>, Failure>
     requires { length bytes.old ≡ answer_room }
-    ensures { AfterNext place board.old bytes.new board.new result }
+    ensures board { AfterNext place board.old bytes.new board.new result }
+    ensures input { IfSome (R.remaining input.old)
+        (λ xs. RecordRead xs (R.remaining input.new) board.old board.new result) }
 {
-    match standard_input::fill(input, &mut bytes[..LENGTH_SIZE]) {
-        Got::Failed(error) => cannot_read(errors, error),
-        Got::Bytes(n) => post_after(errors, input, board, bytes, n, place),
-    }
+    let n = standard_input::fill(input, &mut bytes[..LENGTH_SIZE]).map_err(Failure::Read)?;
+    post_after(errors, input, board, bytes, n, place)
 }
 
 // Posts the record whose first n bytes are in the buffer. These are as many as a length field has, or fewer at the end
 // of the input. Posts nothing if n is 0 or if the length is above that of the longest record.
-fn post_after(
+fn post_after<R: Read>(
     errors: &impl Print,
-    input: &mut impl Read,
+    input: &mut R,
     board: &mut [u8],
     bytes: &mut [u8],
     n: usize,
     place: u64,
-) -> Next
+) -> Result<Option<u64>, Failure>
     requires room { length bytes.old ≡ answer_room }
     requires head { n ≤ LENGTH.width }
     ensures kept { take n bytes.new ≡ take n bytes.old }
     ensures board { AfterHead n place board.old bytes.new board.new result }
+    ensures input { IfSome (R.remaining input.old) (λ xs. let head = take n bytes.old in
+        HeadRead (start_of head) head xs (R.remaining input.new) board.old board.new result) }
 {
     match record_stream::start_of(&bytes[..n]) {
-        Start::End => Next::End,
+        Start::End => Ok(None),
         Start::Record(rest) => post_rest(errors, input, board, bytes, n, rest, place),
-        Start::NoRecord => {
-            tell_length(errors, place);
-            Next::Failed
-        }
+        Start::NoRecord => Err(Failure::Length(place)),
     }
 }
 
 // Reads the rest of a record, of which n bytes are in the buffer, and posts it. If the input ends within the record,
 // the record is malformed.
-fn post_rest(
+fn post_rest<R: Read>(
     errors: &impl Print,
-    input: &mut impl Read,
+    input: &mut R,
     board: &mut [u8],
     bytes: &mut [u8],
     n: usize,
     rest: usize,
     place: u64,
-) -> Next
+) -> Result<Option<u64>, Failure>
     requires room { length bytes.old ≡ answer_room }
     requires head { n ≤ LENGTH.width }
     requires rest { rest ≤ longest_rest }
     ensures kept { take n bytes.new ≡ take n bytes.old }
     ensures board { AfterRest n rest place board.old bytes.new board.new result }
+    ensures input { IfSome (R.remaining input.old) (λ xs.
+        RestRead (take n bytes.old) xs rest (R.remaining input.new) board.old board.new result) }
 {
     let end = n + rest;
-    match standard_input::fill(input, &mut bytes[n..end]) {
-        Got::Failed(error) => cannot_read(errors, error),
-        Got::Bytes(more) => {
-            let size = n + more;
-            tell(errors, board::post(board, &bytes[..size]), place);
-            Next::At(wrapping_add_u64(place, size as u64))
-        }
-    }
+    let more = standard_input::fill(input, &mut bytes[n..end]).map_err(Failure::Read)?;
+    let size = n + more;
+    tell(errors, board::post(board, &bytes[..size]), place);
+    Ok(Some(place.wrapping_add(size as u64)))
 }
 
-fn cannot_read(errors: &impl Print, error: io::Error) -> Next
-    ensures { result ≡ Failed }
-{
-    let _ = println!(errors; "post: standard input cannot be read: {error}");
-    Next::Failed
+fn tell_failure(errors: &impl Print, failure: Failure) {
+    match failure {
+        Failure::Read(error) => {
+            let _ = println!(errors; "post: standard input cannot be read: {error}");
+        }
+        Failure::Write(error) => {
+            let _ = println!(errors; "post: standard output cannot be written: {error}");
+        }
+        Failure::Length(place) => tell_length(errors, place),
+    }
 }
 
 fn tell(errors: &impl Print, posted: Result<(), PostError>, place: u64) {

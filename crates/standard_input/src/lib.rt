@@ -1,55 +1,27 @@
 // Reads an input so that the caller can tell the end of the input from a failed read.
 #![tactic(auto)]
 
-ghost use Rattle.std.specs.Prelude.{◌≡◌, IfOk, false};
-ghost use Rattle.standard_input.specs.Got.{got_of, count_of, Within, TakenOnce, Taken};
+ghost use Rattle.std.specs.Prelude.{◌≡◌, IfOk, IfSome, false};
+ghost use Rattle.std.specs.Io.{ReadsAtMost};
+ghost use Rattle.std.specs.Io.KnownBytes.{ReadConsumes};
+ghost use Rattle.standard_input.specs.Reading.{Taken, FrameTaken};
 
 use std::io;
 use std::io::{ErrorKind, Read};
 
-// The result of reading: how many bytes were read to the start of the buffer, or that a read failed, and why.
-#[derive(Clone, Copy)]
-pub enum Got {
-    Bytes(usize),
-    Failed(io::Error),
-}
-
-impl Got {
-    // Returns the count, or the error of the failed read.
-    pub fn count(self) -> io::Result<usize>
-        ensures { result ≡ count_of self }
-    {
-        match self {
-            Got::Bytes(n) => Ok(n),
-            Got::Failed(error) => Err(error),
-        }
-    }
-}
-
-// Interprets the result of a read. A count of 0 is the end of the input and not a failure.
-fn got_by(answer: io::Result<usize>, part: &[u8]) -> Got
-    ensures got { result ≡ got_of answer part.now }
-    ensures within { Within part.now result }
-{
-    match answer {
-        Ok(n) => Got::Bytes(n.min(part.len())),
-        Err(error) => Got::Failed(error),
-    }
-}
-
 // Reads once, and again if a signal interrupted the read before a byte arrived. The prover requires a bound on the loop, so the bound is
 // a count that no run of signals reaches.
-fn read_some<R: Read>(input: &mut R, part: &mut [u8]) -> Got
-    ensures within { Within part.new result }
-    ensures bytes { TakenOnce (R.remaining input.old) (R.remaining input.new) part.new result }
+fn read_some<R: Read>(input: &mut R, part: &mut [u8]) -> io::Result<usize>
+    ensures within { ReadsAtMost result part.new }
+    ensures bytes { ReadConsumes (R.remaining input.old) (R.remaining input.new) result part.new }
 {
-    let mut tries = u64::MAX;
-    let mut answer = input.read(part);
-    while tries > 0 && is_interrupted(&answer) {
-        answer = input.read(part);
-        tries -= 1;
+    for _ in 0..u64::MAX {
+        let answer = input.read(part);
+        if !is_interrupted(&answer) {
+            return answer;
+        }
     }
-    got_by(answer, part)
+    input.read(part)
 }
 
 fn is_interrupted(answer: &io::Result<usize>) -> bool
@@ -61,21 +33,31 @@ fn is_interrupted(answer: &io::Result<usize>) -> bool
     }
 }
 
-// Reads until the buffer is full, the input ends or a read fails.
-pub fn fill<R: Read>(input: &mut R, buffer: &mut [u8]) -> Got
-    ensures within { Within buffer.new result }
+// Reads until the buffer is full, the input ends or a read fails. Returns how many bytes were read to the start of the buffer. A count
+// below the size of the buffer means that the input has ended.
+pub fn fill<R: Read>(input: &mut R, buffer: &mut [u8]) -> io::Result<usize>
+    ensures within { ReadsAtMost result buffer.new }
     ensures bytes { Taken (R.remaining input.old) (R.remaining input.new) buffer.new result }
 {
+    // Each read decides where the next begins, so no range counts the rounds of this loop.
     let mut done: usize = 0;
     while done < buffer.len() {
-        let more = match read_some(input, &mut buffer[done..]) {
-            Got::Bytes(more) => more,
-            Got::Failed(error) => return Got::Failed(error),
-        };
+        let more = read_some(input, &mut buffer[done..])?;
         if more == 0 {
-            return Got::Bytes(done);
+            return Ok(done);
         }
         done += more;
     }
-    Got::Bytes(done)
+    Ok(done)
+}
+
+// Reads the next frame of N bytes. Returns None at the end of the input, and also if this end cuts the frame short.
+pub fn next_frame<const N: usize, R: Read>(input: &mut R) -> io::Result<Option<[u8; N]>>
+    ensures { IfSome (R.remaining input.old) (λ xs. FrameTaken N xs (R.remaining input.new) result) }
+{
+    let mut frame = [0u8; N];
+    if fill(input, &mut frame)? < N {
+        return Ok(None);
+    }
+    Ok(Some(frame))
 }

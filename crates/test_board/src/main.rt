@@ -7,19 +7,19 @@
 // If a read or write fails, the program stops with the error.
 #![tactic(auto)]
 
-ghost use Rattle.std.specs.Prelude.{◌≤◌};
-
 use board::{BOARD_SIZE, PostError, SLOTS};
-use little_endian::{u16_at, u32_at};
+use little_endian::u32_at;
 use std::io;
 use std::io::Read;
-use std::num::wrapping_add_u64;
 
 // The size of the buffer: a board and one more slot.
 const ROOM: usize = BOARD_SIZE + BOARD_SIZE / SLOTS;
 
+// The prime of FNV-1a, 2^40 + 435.
+const PRIME: u64 = 0x100_0000_01b3;
+
 // What to do next: continue with the given number of bytes lent as the board, start again with a board of zeros, or
-// stop.
+// stop. These are three outcomes of equal standing, so no Option and no Result says them more plainly.
 #[derive(Clone, Copy)]
 enum Next {
     Lend(usize),
@@ -63,11 +63,10 @@ fn run_command(
     room: &mut [u8],
     size: usize,
 ) -> io::Result<Next> {
-    let mut command = [0u8; 2];
-    if standard_input::fill(input, &mut command).count()? < 2 {
+    let Some(command) = standard_input::next_frame(input)? else {
         return Ok(Next::Stop);
-    }
-    let n = u16_at(&command, 0);
+    };
+    let n = u16::from_le_bytes(command);
     if n == 0xFFFF {
         print_hash(rt, room, size)?;
         return Ok(Next::Clear);
@@ -80,28 +79,21 @@ fn run_command(
         let lent = lent_size(input)?;
         return Ok(Next::Lend(lent));
     }
-    post_record(rt, input, room, size, n as usize)?;
+    post_record(rt, input, room, size, usize::from(n))?;
     Ok(Next::Lend(size))
 }
 
 // Reads the number of bytes to lend. A number above the size of the buffer counts as that size.
 fn lent_size(input: &mut impl Read) -> io::Result<usize> {
     let mut bytes = [0u8; 4];
-    standard_input::fill(input, &mut bytes).count()?;
+    standard_input::fill(input, &mut bytes)?;
     let n = u32_at(&bytes, 0) as usize;
-    Ok(at_most(n, ROOM))
-}
-
-fn at_most(n: usize, limit: usize) -> usize
-    ensures limit { result ≤ limit }
-    ensures number { result ≤ n }
-{
-    if n < limit { n } else { limit }
+    Ok(n.min(ROOM))
 }
 
 fn put_byte(input: &mut impl Read, room: &mut [u8]) -> io::Result<()> {
     let mut bytes = [0u8; 5];
-    standard_input::fill(input, &mut bytes).count()?;
+    standard_input::fill(input, &mut bytes)?;
     let at = u32_at(&bytes, 0) as usize;
     if at < room.len() {
         room[at] = bytes[4];
@@ -128,9 +120,9 @@ fn read_and_post(
     bytes: &mut [u8],
     n: usize,
 ) -> io::Result<()> {
-    let cut = at_most(n, bytes.len());
-    standard_input::fill(input, &mut bytes[..cut]).count()?;
-    let lent = at_most(size, room.len());
+    let cut = n.min(bytes.len());
+    standard_input::fill(input, &mut bytes[..cut])?;
+    let lent = size.min(room.len());
     print_posted(rt, board::post(&mut room[..lent], &bytes[..cut]))
 }
 
@@ -143,7 +135,7 @@ fn print_posted(rt: &impl Print, posted: Result<(), PostError>) -> io::Result<()
 
 // Prints the FNV-1a hash of the lent bytes.
 fn print_hash(rt: &impl Print, room: &[u8], size: usize) -> io::Result<()> {
-    let lent = at_most(size, room.len());
+    let lent = size.min(room.len());
     let hash = hash_of(&room[..lent]);
     println!(rt; " {hash:016x}")
 }
@@ -151,16 +143,7 @@ fn print_hash(rt: &impl Print, room: &[u8], size: usize) -> io::Result<()> {
 fn hash_of(s: &[u8]) -> u64 {
     let mut hash: u64 = 0xcbf2_9ce4_8422_2325;
     for byte in s {
-        hash = times_prime(hash ^ (*byte as u64));
+        hash = (hash ^ u64::from(*byte)).wrapping_mul(PRIME);
     }
     hash
-}
-
-// Returns the product of x and 2^40 + 435, the prime of FNV-1a, modulo 2^64. It is computed in parts, because a product
-// of u64s must not overflow here.
-fn times_prime(x: u64) -> u64 {
-    let low = x % 0x1_0000_0000 * 435;
-    let high = x / 0x1_0000_0000 * 435 % 0x1_0000_0000 * 0x1_0000_0000;
-    let shifted = x % 0x100_0000 * 0x100_0000_0000;
-    wrapping_add_u64(wrapping_add_u64(low, high), shifted)
 }

@@ -3,13 +3,12 @@
 // the error.
 #![tactic(auto)]
 
-ghost use Rattle.std.specs.Prelude.{◌<◌, ◌≤◌};
+ghost use Rattle.std.specs.Prelude.{◌≤◌};
 
 use entrance::{Fault, Problem};
 use float64::Vector;
 use geometry::{Frame, Triangle};
 use std::io;
-use std::io::Read;
 
 // The size of a frame: two bytes for the question's size, two for the answer buffer's size, and 120 for the question.
 const FRAME_SIZE: usize = 124;
@@ -48,10 +47,10 @@ fn print_directions(rt: &impl Print, f: Frame) -> io::Result<()> {
 fn print_problem(rt: &impl Print, p: Problem) -> io::Result<()> {
     let triangle = p.triangle;
     let frame = p.frame;
-    print_word(rt, p.job as u64)?;
-    print_word(rt, p.revision as u64)?;
-    print_word(rt, p.revolutions as u64)?;
-    print_word(rt, if p.long_way { 1 } else { 0 })?;
+    print_word(rt, u64::from(p.job))?;
+    print_word(rt, u64::from(p.revision))?;
+    print_word(rt, u64::from(p.revolutions))?;
+    print_word(rt, u64::from(p.long_way))?;
     print_float(rt, p.mu)?;
     print_triangle(rt, triangle)?;
     print_float(rt, p.radius1)?;
@@ -72,49 +71,34 @@ fn print_judged(rt: &impl Print, judged: Result<Problem, Fault>) -> io::Result<(
     }
 }
 
-// Returns the number in two bytes, the lower one first.
-fn number(low: u8, high: u8) -> usize
-    ensures { result < 65536 }
-{
-    low as usize + high as usize * 256
-}
-
 // Returns where a question of the given size ends in its frame. A size above 120 counts as 120.
 fn question_end(size: usize) -> usize
     ensures least { 4 ≤ result }
     ensures most { result ≤ 124 }
 {
-    if size < FRAME_SIZE - 4 {
-        4 + size
-    } else {
-        FRAME_SIZE
-    }
+    4 + size.min(FRAME_SIZE - 4)
 }
 
 fn judge_frame(frame: &[u8; FRAME_SIZE]) -> Result<Problem, Fault> {
-    let end = question_end(number(frame[0], frame[1]));
-    let room = number(frame[2], frame[3]);
+    let end = question_end(usize::from(u16::from_le_bytes([frame[0], frame[1]])));
+    let room = usize::from(u16::from_le_bytes([frame[2], frame[3]]));
     let bytes = &frame[..];
     entrance::judge(&bytes[4..end], room)
 }
 
-// Reads one frame and writes its line. Returns whether the frame was whole.
-fn answer_one(rt: &impl Print, input: &mut impl Read) -> io::Result<bool> {
-    let mut frame = [0u8; FRAME_SIZE];
-    if standard_input::fill(input, &mut frame).count()? < FRAME_SIZE {
-        return Ok(false);
-    }
-    print_judged(rt, judge_frame(&frame))?;
-    Ok(true)
+// Writes the line of one frame.
+fn answer(rt: &impl Print, frame: &[u8; FRAME_SIZE]) -> io::Result<()> {
+    print_judged(rt, judge_frame(frame))
 }
 
 // The prover requires a bound on the loop. The input has none, so the bound is a count that no input reaches.
 fn main(rt: HostRuntime) -> io::Result<()> {
     let mut input = rt.stdin();
     for _ in 0..u64::MAX {
-        if !answer_one(&rt, &mut input)? {
+        let Some(frame) = standard_input::next_frame(&mut input)? else {
             break;
-        }
+        };
+        answer(&rt, &frame)?;
     }
     Ok(())
 }

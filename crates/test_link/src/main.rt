@@ -12,7 +12,7 @@ ghost use Rattle.records.specs.Layout.{question_room};
 ghost use Rattle.link_reader.specs.Reading.{size_given};
 
 use link_reader::{Reader, Refusal, Step};
-use little_endian::{u16_at, word_at};
+use little_endian::word_at;
 use records::QUESTION_ROOM;
 use std::io;
 use std::io::Read;
@@ -20,58 +20,38 @@ use std::io::Read;
 // The size of the longest piece.
 const LONGEST: usize = 4096;
 
-// The reader after a command, and whether another command may follow.
-#[derive(Clone, Copy)]
-struct Ran {
-    reader: Reader,
-    more: bool,
-}
-
 fn main(rt: HostRuntime) -> io::Result<()> {
     let mut input = rt.stdin();
     let mut bytes = [0u8; LONGEST];
-    let new = Reader::new();
-    let mut ran = Ran {
-        reader: new,
-        more: true,
-    };
+    let mut reader = Reader::new();
     for _ in 0..u64::MAX {
-        if !ran.more {
+        let Some(command) = standard_input::next_frame(&mut input)? else {
             break;
-        }
-        let reader = ran.reader;
-        ran = run_command(&rt, &mut input, reader, &mut bytes)?;
+        };
+        reader = run_command(
+            &rt,
+            &mut input,
+            reader,
+            &mut bytes,
+            u16::from_le_bytes(command),
+        )?;
     }
     Ok(())
 }
 
+// Runs a command, whose first two bytes hold the number n, and returns the reader after it.
 fn run_command(
     rt: &impl Print,
     input: &mut impl Read,
     reader: Reader,
     bytes: &mut [u8],
-) -> io::Result<Ran> {
-    let mut command = [0u8; 2];
-    if standard_input::fill(input, &mut command).count()? < 2 {
-        return Ok(Ran {
-            reader,
-            more: false,
-        });
-    }
-    let n = u16_at(&command, 0);
+    n: u16,
+) -> io::Result<Reader> {
     if n == 0xFFFF {
         print_state(rt, reader)?;
-        let again = reader.reset();
-        return Ok(Ran {
-            reader: again,
-            more: true,
-        });
+        return Ok(reader.reset());
     }
-    let fed = read_and_feed(rt, input, reader, bytes, n as usize)?;
-    Ok(Ran {
-        reader: fed,
-        more: true,
-    })
+    read_and_feed(rt, input, reader, bytes, usize::from(n))
 }
 
 fn read_and_feed(
@@ -81,31 +61,24 @@ fn read_and_feed(
     bytes: &mut [u8],
     n: usize,
 ) -> io::Result<Reader> {
-    let size = at_most(n, bytes.len());
-    standard_input::fill(input, &mut bytes[..size]).count()?;
+    let size = n.min(bytes.len());
+    standard_input::fill(input, &mut bytes[..size])?;
     feed(rt, reader, &bytes[..size])
 }
 
-fn at_most(n: usize, limit: usize) -> usize
-    ensures { result ≤ limit }
-{
-    if n < limit { n } else { limit }
-}
-
-// Passes in a piece, and passes in again the bytes that a call did not take, until none are left or a reset is needed.
+// Passes in a piece, and passes in again the bytes that a call did not take, until none are left or a reset is needed. Each call takes at
+// least one byte while some are left, so one call more than the piece has bytes is enough.
 fn feed(rt: &impl Print, reader: Reader, piece: &[u8]) -> io::Result<Reader> {
     let mut now = reader;
-    let mut at = 0;
-    let mut calls = piece.len() + 1;
-    while calls > 0 {
-        let step = now.read(&piece[at..]);
-        at += step.taken;
+    let mut rest = piece;
+    for _ in 0..=piece.len() {
+        let step = now.read(rest);
+        rest = &rest[step.taken..];
         now = step.next;
         let more = print_step(rt, step)?;
-        if !more || at == piece.len() {
-            return Ok(now);
+        if !more || rest.is_empty() {
+            break;
         }
-        calls -= 1;
     }
     Ok(now)
 }
@@ -140,7 +113,7 @@ fn print_taken(rt: &impl Print, letter: &str, taken: usize) -> io::Result<bool> 
 
 fn print_state(rt: &impl Print, reader: Reader) -> io::Result<()> {
     let bytes = reader.bytes;
-    let count = at_most(reader.count, QUESTION_ROOM);
+    let count = reader.count.min(QUESTION_ROOM);
     print_taken(rt, " K", reader.count)?;
     print!(rt; "=")?;
     print_first(rt, &bytes, count)?;
@@ -158,11 +131,9 @@ fn print_first(rt: &impl Print, s: &[u8], n: usize) -> io::Result<()>
 }
 
 fn print_words(rt: &impl Print, s: &[u8]) -> io::Result<()> {
-    let mut at = 0;
-    while at < s.len() {
-        let word = word_at(s, at);
+    for part in s.chunks(8) {
+        let word = word_at(part, 0);
         print!(rt; "{word:016x}")?;
-        at += 8;
     }
     Ok(())
 }

@@ -30,7 +30,7 @@ fn main(rt: HostRuntime) -> io::Result<()> {
 fn copy_record(rt: &impl Print, input: &mut impl Read, bytes: &mut [u8]) -> io::Result<bool>
     requires { length bytes.old ≡ answer_room }
 {
-    let came = standard_input::fill(input, &mut bytes[..LENGTH_SIZE]).count()?;
+    let came = standard_input::fill(input, &mut bytes[..LENGTH_SIZE])?;
     if came < LENGTH_SIZE {
         return Ok(false);
     }
@@ -52,7 +52,7 @@ fn copy_rest(
     requires above { LENGTH.width ≤ size }
     requires below { size ≤ answer_room }
 {
-    let came = standard_input::fill(input, &mut bytes[LENGTH_SIZE..size]).count()?;
+    let came = standard_input::fill(input, &mut bytes[LENGTH_SIZE..size])?;
     if came < size - LENGTH_SIZE {
         return Ok(false);
     }
@@ -85,10 +85,11 @@ fn write_answer(rt: &impl Print, bytes: &[u8]) -> io::Result<()> {
     let mut out = [0u8; HEAD_SIZE];
     records::write_head(&mut out, head);
     rt.write_all(&out)?;
-    let mut i: u16 = 0;
-    while i < head.number && records::answer_size(i + 1) <= bytes.len() {
+    for i in 0..head.number {
+        if bytes.len() < records::answer_size(i + 1) {
+            break;
+        }
         write_entry(rt, &bytes[records::answer_size(i)..])?;
-        i += 1;
     }
     Ok(())
 }

@@ -5,41 +5,39 @@
 ghost use Rattle.std.specs.Prelude.{◌<◌};
 
 use std::io;
-use std::io::Read;
+
+// The size of a line: 16 digits and the line's end.
+const LINE_SIZE: usize = 17;
 
 // Returns the value of a hexadecimal digit, in upper or lower case.
 fn digit(c: u8) -> u64
     ensures { result < 16 }
 {
-    ((c % 16 + 9 * (c / 64)) % 16) as u64
+    u64::from((c % 16 + 9 * (c / 64)) % 16)
 }
 
-fn operand(line: &[u8; 17]) -> u64 {
+fn operand(line: &[u8; LINE_SIZE]) -> u64 {
     let mut value = 0u64;
-    for i in 0..16 {
-        value = value % 0x1000_0000_0000_0000 * 16 + digit(line[i]);
+    for c in &line[..16] {
+        value = value % 0x1000_0000_0000_0000 * 16 + digit(*c);
     }
     value
 }
 
-// Reads one line and writes its root. Returns whether the line was whole.
-fn answer_one(rt: &impl Print, input: &mut impl Read) -> io::Result<bool> {
-    let mut line = [0u8; 17];
-    if standard_input::fill(input, &mut line).count()? < 17 {
-        return Ok(false);
-    }
-    let root = c_root::lambert_root_bits(operand(&line));
-    println!(rt; "{root:016x}")?;
-    Ok(true)
+// Writes the root of the operand in one line.
+fn answer(rt: &impl Print, line: &[u8; LINE_SIZE]) -> io::Result<()> {
+    let root = c_root::lambert_root_bits(operand(line));
+    println!(rt; "{root:016x}")
 }
 
 // The prover requires a bound on the loop. The input has none, so the bound is a count that no input reaches.
 fn main(rt: HostRuntime) -> io::Result<()> {
     let mut input = rt.stdin();
     for _ in 0..u64::MAX {
-        if !answer_one(&rt, &mut input)? {
+        let Some(line) = standard_input::next_frame(&mut input)? else {
             break;
-        }
+        };
+        answer(&rt, &line)?;
     }
     Ok(())
 }

@@ -10,8 +10,10 @@ ghost use Rattle.little_endian.specs.Bytes.{number_at};
 
 use stations::Search;
 use std::io;
-use std::io::Read;
 use sweep::{Bracket, Crossings, VoidStation, Walk};
+
+// The size of a frame: three numbers of eight bytes.
+const FRAME_SIZE: usize = 24;
 
 fn wanted_bits(frame: &[u8]) -> u64
     ensures { result ≡ number_at 8 frame.now 8 }
@@ -22,7 +24,7 @@ fn wanted_bits(frame: &[u8]) -> u64
 fn crossings_of(frame: &[u8]) -> Crossings {
     let search = Search {
         triangle: c_time::with_lambda(little_endian::word_at(frame, 0)),
-        revolutions: (little_endian::word_at(frame, 16) % 65536) as u16,
+        revolutions: little_endian::u16_at(frame, 16),
         wanted: float64::from_bits(wanted_bits(frame)),
     };
     sweep::find_crossings(search)
@@ -52,38 +54,32 @@ fn print_bracket(rt: &impl Print, bracket: Bracket) -> io::Result<()> {
 
 // Writes the first `count` brackets of the list, at most eight.
 fn print_list(rt: &impl Print, list: [Bracket; 8], count: usize) -> io::Result<()> {
-    let mut i: usize = 0;
-    while i < 8 && i < count {
-        print_bracket(rt, list[i])?;
-        i += 1;
+    for bracket in &list[..count.min(8)] {
+        print_bracket(rt, *bracket)?;
     }
     Ok(())
 }
 
-// Reads one frame and writes its line. Returns whether the frame was whole.
-fn answer_one(rt: &impl Print, input: &mut impl Read) -> io::Result<bool> {
-    let mut frame = [0u8; 24];
-    if standard_input::fill(input, &mut frame).count()? < 24 {
-        return Ok(false);
-    }
-    let found = crossings_of(&frame);
+// Writes the line of one frame.
+fn answer(rt: &impl Print, frame: &[u8; FRAME_SIZE]) -> io::Result<()> {
+    let found = crossings_of(frame);
     let walk = found.walk;
     let list = found.list;
     let count = found.count;
     print!(rt; "{count}")?;
     print_walk(rt, walk)?;
     print_list(rt, list, count)?;
-    println!(rt; "")?;
-    Ok(true)
+    println!(rt; "")
 }
 
 // The prover requires a bound on the loop. The input has none, so the bound is a count that no input reaches.
 fn main(rt: HostRuntime) -> io::Result<()> {
     let mut input = rt.stdin();
     for _ in 0..u64::MAX {
-        if !answer_one(&rt, &mut input)? {
+        let Some(frame) = standard_input::next_frame(&mut input)? else {
             break;
-        }
+        };
+        answer(&rt, &frame)?;
     }
     Ok(())
 }

@@ -8,7 +8,9 @@ ghost use Rattle.little_endian.specs.Bytes.{number_at};
 
 use flight_time::Place;
 use std::io;
-use std::io::Read;
+
+// The size of a frame: lambda and k in eight bytes each, and the revolutions in two.
+const FRAME_SIZE: usize = 18;
 
 fn k_bits(frame: &[u8]) -> u64
     ensures { result ≡ number_at 8 frame.now 8 }
@@ -16,24 +18,15 @@ fn k_bits(frame: &[u8]) -> u64
     little_endian::word_at(frame, 8)
 }
 
-// Returns the whole revolutions in the last two bytes. Bytes past the end of the frame count as 0.
-fn revolutions_of(frame: &[u8]) -> u16 {
-    (little_endian::word_at(frame, 16) % 65536) as u16
-}
-
 fn place_of(frame: &[u8]) -> Place {
     let triangle = c_time::with_lambda(little_endian::word_at(frame, 0));
     let k = little_endian::signed_of(k_bits(frame));
-    flight_time::time_at(triangle, k, revolutions_of(frame))
+    flight_time::time_at(triangle, k, little_endian::u16_at(frame, 16))
 }
 
-// Reads one frame and writes its line. Returns whether the frame was whole.
-fn answer_one(rt: &impl Print, input: &mut impl Read) -> io::Result<bool> {
-    let mut frame = [0u8; 18];
-    if standard_input::fill(input, &mut frame).count()? < 18 {
-        return Ok(false);
-    }
-    match place_of(&frame) {
+// Writes the line of one frame.
+fn answer(rt: &impl Print, frame: &[u8; FRAME_SIZE]) -> io::Result<()> {
+    match place_of(frame) {
         Place::Timed(time) => {
             let time = float64::to_bits(time);
             println!(rt; "{time:016x}")?;
@@ -43,16 +36,17 @@ fn answer_one(rt: &impl Print, input: &mut impl Read) -> io::Result<bool> {
             println!(rt; "void {number}")?;
         }
     }
-    Ok(true)
+    Ok(())
 }
 
 // The prover requires a bound on the loop. The input has none, so the bound is a count that no input reaches.
 fn main(rt: HostRuntime) -> io::Result<()> {
     let mut input = rt.stdin();
     for _ in 0..u64::MAX {
-        if !answer_one(&rt, &mut input)? {
+        let Some(frame) = standard_input::next_frame(&mut input)? else {
             break;
-        }
+        };
+        answer(&rt, &frame)?;
     }
     Ok(())
 }

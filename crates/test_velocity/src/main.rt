@@ -8,8 +8,10 @@ ghost use Rattle.std.specs.Prelude.{◌≤◌};
 use float64::Vector;
 use geometry::{Frame, Triangle};
 use std::io;
-use std::io::Read;
 use velocity::Velocities;
+
+// The size of a frame: 17 floats and the place k, in eight bytes each.
+const FRAME_SIZE: usize = 144;
 
 fn number(frame: &[u8], at: usize) -> f64 {
     float64::from_bits(little_endian::word_at(frame, at))
@@ -69,29 +71,25 @@ fn print_vector(rt: &impl Print, v: Vector) -> io::Result<()> {
     print_number(rt, v.z)
 }
 
-// Reads one frame and writes its line. Returns whether the frame was whole.
-fn answer_one(rt: &impl Print, input: &mut impl Read) -> io::Result<bool> {
-    let mut frame = [0u8; 144];
-    if standard_input::fill(input, &mut frame).count()? < 144 {
-        return Ok(false);
-    }
-    let w = velocities_of(&frame);
+// Writes the line of one frame.
+fn answer(rt: &impl Print, frame: &[u8; FRAME_SIZE]) -> io::Result<()> {
+    let w = velocities_of(frame);
     let v1 = w.v1;
     let v2 = w.v2;
     print_vector(rt, v1)?;
     print!(rt; " ")?;
     print_vector(rt, v2)?;
-    println!(rt; "")?;
-    Ok(true)
+    println!(rt; "")
 }
 
 // The prover requires a bound on the loop. The input has none, so the bound is a count that no input reaches.
 fn main(rt: HostRuntime) -> io::Result<()> {
     let mut input = rt.stdin();
     for _ in 0..u64::MAX {
-        if !answer_one(&rt, &mut input)? {
+        let Some(frame) = standard_input::next_frame(&mut input)? else {
             break;
-        }
+        };
+        answer(&rt, &frame)?;
     }
     Ok(())
 }

@@ -1,18 +1,19 @@
--- `feed` is safe, and if more is to be read, the reader that it returns is the one after the whole piece.
+-- `feed` is safe, and unless reading stops, the reader that it leaves is the one after the whole piece.
 use mathlib.Core.Path.{◌≡◌, refl, sym, ap, ◌∙◌}
 use mathlib.Core.Bool.{cond}
 use mathlib.Core.List.{List}
 use Prim.Native.Nat.{ℕ, zero, suc, ◌+◌, ◌-◌, ◌≤◌, ◌<◌}
 use native.Mathlib.Omega.{arith}
+use Rattle.std.proofs.Common.{rules}
 use native.Mathlib.Numerals.{unary_clauses}
 use borrow.Author.Tests.{eq-eqb, ne_eqb}
 use lib.Dec.{eqb}
 use lib.ListN.{length, take, drop, length-drop}
-use lib.Seq.{take_all, drop-drop}
+use lib.Seq.{take_all}
 use Rattle.link_reader.specs.declared.Reader.{Reader}
 use Rattle.link_reader.specs.declared.Step.{Step}
 use Rattle.link_reader.specs.Reading.{read_of}
-use Rattle.link_reader.proofs.Laws.{rest_within, question_fits}
+use Rattle.link_reader.proofs.Laws.{taken_within, question_fits}
 use Rattle.link.specs.Pieces.{reader_for, reader_after}
 use Rattle.link.proofs.feed.Goals as goal
 
@@ -28,27 +29,24 @@ unfolding reader_for
 by_call zero some r piece s is = absurd (omega arith)
 by_call (suc calls) some r piece s is = rw is (simp unary_clauses refl)
 
-module _ (r : Reader) (piece : List ℕ) (at calls : ℕ) (some : 0 < calls) (s : Step)
-    (is : s ≡ read_of r (take (length piece - at) (drop at piece))) where
-  step : reader_for calls r (drop at piece) ≡ onward calls s (drop s.taken (drop at piece))
-  step =
-      let all = take_all (length piece - at) (drop at piece) (omega (arith, length-drop at piece)) in
-      by_call calls some r (drop at piece) s (is ∙ ap (read_of r) all)
+module _ (r : Reader) (rest : List ℕ) (calls : ℕ) (s : Step) (is : s ≡ read_of r rest) where
+  left_is : take (length rest - s.taken) (drop s.taken rest) ≡ drop s.taken rest
+  left_is = take_all (length rest - s.taken) (drop s.taken rest) (omega (arith, length-drop s.taken rest))
 
-  left : length (drop s.taken (drop at piece)) ≡ length piece - (at + s.taken)
-  left = ap length (drop-drop s.taken at piece) ∙ length-drop (at + s.taken) piece
+  last_call : 0 < calls → length (take (length rest - s.taken) (drop s.taken rest)) ≡ 0 → reader_for calls r rest ≡ s.next
+  last_call some none =
+      by_call calls some r rest s is
+      ∙ rw (eq-eqb (length (drop s.taken rest)) 0 (ap length (sym left_is) ∙ none)) refl
 
-  last_call : at + s.taken ≡ length piece → reader_for calls r (drop at piece) ≡ s.next
-  last_call ended = step ∙ rw (eq-eqb (length (drop s.taken (drop at piece))) 0 (left ∙ omega (arith, ended))) refl
+  next_call : 0 < calls → (length (take (length rest - s.taken) (drop s.taken rest)) ≡ 0 → ⊥)
+      → reader_for calls r rest ≡ reader_for (calls - 1) s.next (take (length rest - s.taken) (drop s.taken rest))
+  next_call some more =
+      let first : reader_for calls r rest ≡ reader_for (calls - 1) s.next (drop s.taken rest) =
+      by_call calls some r rest s is
+      ∙ rw (ne_eqb (length (drop s.taken rest)) 0 (λ z. more (ap length left_is ∙ z))) refl in
+      first ∙ ap (reader_for (calls - 1) s.next) (sym left_is)
 
-  next_call : at + s.taken < length piece →
-      reader_for calls r (drop at piece) ≡ reader_for (calls - 1) s.next (drop (at + s.taken) piece)
-  next_call more =
-      step
-      ∙ rw (ne_eqb (length (drop s.taken (drop at piece))) 0 (λ z. omega (arith, left, z, more))) refl
-      ∙ ap (reader_for (calls - 1) s.next) (drop-drop s.taken at piece)
-
-started : (r : Reader) (piece : List ℕ) → reader_for (length piece + 1) r piece ≡ reader_after r piece
+started : (r : Reader) (piece : List ℕ) → reader_for (length piece - 0 + 1) r piece ≡ reader_after r piece
 unfolding reader_after
 started r piece = ap (λ (n : ℕ). reader_for n r piece) (omega arith)
 
@@ -59,31 +57,33 @@ no_calls (suc calls) none r rest = absurd (omega arith)
 
 -- ---- The loop
 
-pub loop-calls-init : goal.loop-calls-init
-loop-calls-init g c = (omega arith, λ more. started c.args.reader c.args.piece.now)
+pub loop-init : goal.loop-init
+loop-init g c = started _ c.args.piece.now
 
-pub overflow_add-at : goal.overflow_add-at
-overflow_add-at g c =
-    let within = rest_within _ c.args.piece.now c.loop-calls.at c.read-step.result c.loop-calls.invariant.0 c.read-step.ensures.step in
-    omega (arith, within)
+pub slice_bounds-rest-count : goal.slice_bounds-rest-count
+slice_bounds-rest-count g c = taken_within _ _ _ c.read-step.ensures.step
+
+pub slice_bounds-rest-start : goal.slice_bounds-rest-start
+slice_bounds-rest-start g c = taken_within _ _ _ c.read-step.ensures.step
 
 pub answer_step-requires : goal.answer_step-requires
 answer_step-requires g c = question_fits _ _ _ c.read-step.ensures.step
 
-pub returns-then-at-piece : goal.returns-then-at-piece
-returns-then-at-piece g c =
-    let piece = c.args.piece.now in
-    let end : c.loop-calls.at + c.read-step.result.taken ≡ length piece = omega arith in
-    let is = last_call _ piece c.loop-calls.at c.loop-calls.calls (omega arith) c.read-step.result c.read-step.ensures.step end in
-    λ more. sym is ∙ c.loop-calls.invariant.1 c.if-fed.true
+pub returns-then-is_empty : goal.returns-then-is_empty
+returns-then-is_empty g c =
+    sym (last_call c.loop.reader c.loop.rest.now (length c.args.piece.now - c.loop.counter + 1) c.read-step.result c.read-step.ensures.step
+    (omega arith) (search rules)) ∙ c.loop.invariant
 
-pub loop-calls-preserved : goal.loop-calls-preserved
-loop-calls-preserved g c =
-    let piece = c.args.piece.now in
-    let within = rest_within _ piece c.loop-calls.at c.read-step.result c.loop-calls.invariant.0 c.read-step.ensures.step in
-    let less : c.loop-calls.at + c.read-step.result.taken < length piece = omega (arith, within) in
-    let is = next_call _ piece c.loop-calls.at c.loop-calls.calls (omega arith) c.read-step.result c.read-step.ensures.step less in
-    (within, λ more. sym is ∙ c.loop-calls.invariant.1 c.if-fed.true)
+pub loop-preserved : goal.loop-preserved
+loop-preserved g c =
+    let calls = length c.args.piece.now - c.loop.counter + 1 in
+    let is = next_call c.loop.reader c.loop.rest.now calls c.read-step.result c.read-step.ensures.step (omega arith) (search rules) in
+    let left = take (length c.loop.rest.now - c.read-step.result.taken) (drop c.read-step.result.taken c.loop.rest.now) in
+    let one_less : calls - 1 ≡ length c.args.piece.now - (c.loop.counter + 1) + 1 = omega arith in
+    sym (is ∙ ap (λ n. reader_for n c.read-step.result.next left) one_less) ∙ c.loop.invariant
 
-pub returns-after-loop-calls : goal.returns-after-loop-calls
-returns-after-loop-calls g c = λ more. sym (no_calls _ c.loop-calls-test.false _ _) ∙ c.loop-calls.invariant.1 more
+pub returns-else-is_empty : goal.returns-else-is_empty
+returns-else-is_empty g c =
+    let calls = length c.args.piece.now - c.loop.counter + 1 in
+    let is = next_call c.loop.reader c.loop.rest.now calls c.read-step.result c.read-step.ensures.step (omega arith) (search rules) in
+    sym (is ∙ no_calls (calls - 1) (omega arith) _ _) ∙ c.loop.invariant
