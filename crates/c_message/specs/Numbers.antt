@@ -1,19 +1,20 @@
 -- The results of the C interface as numbers. Definitions only.
 use Rattle.std.specs.Prelude.{ℕ, Bool, cond, List, [], ◌∷◌, ◌++◌}
+use Rattle.std.specs.Prelude.{Ok, Err}
+use Rattle.std.specs.Prelude as std
 use Rattle.float64.specs.Notation.{bits}
 use Rattle.float64.specs.declared.Vector.{Vector}
 use Rattle.little_endian.specs.Bytes.{bytes_of, has_room, written}
 use Rattle.decimal.specs.declared.Decimal.{Decimal}
 use Rattle.orbit_message.specs.Reading.{read_of}
 use Rattle.orbit_message.specs.declared.states.State.{State}
-use Rattle.orbit_message.specs.declared.reader.ReadResult as read
-use Rattle.orbit_message.specs.declared.writer.WriteResult.{WriteResult}
-use Rattle.orbit_message.specs.declared.writer.WriteResult.TheVariants.{Message, Refused}
+use Rattle.orbit_message.specs.Refusals.{refusal_number}
+use Rattle.orbit_message.specs.declared.refusals.Refusal.{Refusal}
 
 -- The result of writing a message as one number: the length of the message, or the number of the refusal.
-abbrev pub write_number : WriteResult → ℕ
-write_number (Message length) = length
-write_number (Refused number) = number
+abbrev pub write_number : std.Result ℕ Refusal → ℕ
+write_number (Ok length) = length
+write_number (Err refusal) = refusal_number refusal
 
 -- The vector whose components have the given bits.
 abbrev pub vector_of_bits : ℕ → ℕ → ℕ → Vector
@@ -53,9 +54,9 @@ stored_of s out =
     record { result = cond (has_room out bytes) 0 8; buffer = written out bytes }
 
 -- The result for what `read` returned.
-abbrev pub result_of : read.ReadResult → List ℕ → Result
-result_of (read.TheVariants.State s) out = stored_of s out
-result_of (read.TheVariants.Refused number) out = record { result = number; buffer = out }
+abbrev pub result_of : std.Result State Refusal → List ℕ → Result
+result_of (Ok s) out = stored_of s out
+result_of (Err refusal) out = record { result = refusal_number refusal; buffer = out }
 
 -- The result of reading any bytes as a message into any buffer.
 unfoldable pub read_into : List ℕ → List ℕ → Result

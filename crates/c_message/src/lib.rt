@@ -8,7 +8,7 @@ ghost use Rattle.c_message.specs.Numbers.{write_number, vector_of_bits, state_wo
 
 use float64::{Vector, from_bits};
 use little_endian::put_numbers;
-use orbit_message::{ReadResult, State, WriteResult};
+use orbit_message::State;
 
 // The widths of the eighteen numbers: eight bytes each.
 const WIDTHS: [usize; 18] = [8; 18];
@@ -37,8 +37,8 @@ pub extern "C" fn lambert_opm_write(
         z: from_bits(z),
     };
     match orbit_message::write(answer, entry, r1, texts, out) {
-        WriteResult::Message(length) => length,
-        WriteResult::Refused(number) => number as usize,
+        Ok(length) => length,
+        Err(refusal) => usize::from(u8::from(refusal)),
     }
 }
 
@@ -83,8 +83,8 @@ pub extern "C" fn lambert_opm_read(message: &[u8], out: &mut [u8]) -> u8
     ensures buffer { out.new ≡ (read_into message.now out.old).buffer }
 {
     match orbit_message::read(message) {
-        ReadResult::State(state) => store(out, state),
-        ReadResult::Refused(number) => number,
+        Ok(state) => store(out, state),
+        Err(refusal) => u8::from(refusal),
     }
 }
 

@@ -7,10 +7,10 @@ use Prim.Native.Nat.{ℕ, zero, suc, ◌+◌, ◌-◌, ◌*◌, ◌/◌, ◌%◌
 use native.Mathlib.Nat.{div-one, div-div-eq-div-mul, pow-le-pow_right, pow-succ'}
 use native.Mathlib.Numerals.{add-one}
 use native.Mathlib.Omega.{arith}
-use borrow.Author.Tests.{ltb-true, ltb-false}
+use borrow.Author.Tests.{lt-ltb, le-ltb, ltb-true, ltb-false}
 use lib.Dec.{ltb, lit<}
-use lib.ListN.{length, get_or, length-append, get_or-append}
-use lib.Seq.{get_or_at}
+use lib.ListN.{length, get_or, take, drop, length-append, length-drop, get_or-append}
+use lib.Seq.{get_or_at, get_or-take, get_or-drop, length-take-le}
 use Rattle.decimal.specs.Texts.{padded, digit_count_from, digit_count, value_at}
 
 pub length_padded : (k n : ℕ) → length (padded k n) ≡ k
@@ -66,7 +66,30 @@ pub digit_count_range : (n : ℕ) → (1 ≤ digit_count n) × (digit_count n �
 unfolding digit_count
 digit_count_range n = digit_count_bounds 6 1 n
 
+-- One turn of the loop of `digit_count`: p digits are enough, or more are needed.
+count_left : (p n : ℕ) → p < 7 →
+    digit_count_from (7 - p) p n ≡ cond (ltb n (10 ^ p)) p (digit_count_from (7 - (p + 1)) (p + 1) n)
+unfolding digit_count_from
+count_left p n h =
+    let more : 7 - p ≡ suc (7 - (p + 1)) = omega arith in
+    rw (more, add-one)
+
+pub enough : (p n : ℕ) → p < 7 → n < 10 ^ p → digit_count_from (7 - p) p n ≡ p
+enough p n h l = count_left p n h ∙ rw (lt-ltb n (10 ^ p) l)
+
+pub more_needed : (p n : ℕ) → p < 7 → 10 ^ p ≤ n → digit_count_from (7 - p) p n ≡ digit_count_from (7 - (p + 1)) (p + 1) n
+more_needed p n h l = count_left p n h ∙ rw (le-ltb n (10 ^ p) l)
+
 -- ---- one turn of the loop of `value_at`
+
+-- The k bytes from the offset `at` on: how many they are, and which one is at each index.
+pub many_bytes : (s : List ℕ) (at k : ℕ) → at + k ≤ length s → length (take (at + k - at) (drop at s)) ≡ k
+many_bytes s at k h =
+    let size : at + k - at ≤ length (drop at s) = simp length-drop (omega arith) in
+    length-take-le (at + k - at) (drop at s) size ∙ omega arith
+
+pub byte_at : (s : List ℕ) (at k i : ℕ) → i < k → get_or (take (at + k - at) (drop at s)) i 0 ≡ get_or s (at + i) 0
+byte_at s at k i h = get_or-take (at + k - at) (drop at s) i 0 (omega arith) ∙ get_or-drop at s i 0
 
 pub most : (i : ℕ) → i ≤ 9 → 10 ^ i ≤ 10 ^ 9
 most i h = pow-le-pow_right (lit< tt) h

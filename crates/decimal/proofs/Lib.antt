@@ -6,5 +6,4 @@ pub mod Digits
 pub mod TextBytes
 pub mod NoLineFeed
 pub mod HeldTexts
-pub mod SameTexts
 pub mod ParseCases

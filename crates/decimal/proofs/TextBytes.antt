@@ -8,6 +8,7 @@ use native.Mathlib.Nat.{add-zero}
 use native.Mathlib.Omega.{arith}
 use lib.ListN.{length, get_or, length-append, get_or-append, get_or-eq_default}
 use lib.Seq.{get_or-append-add}
+use Rattle.std.specs.Int.{from_bool}
 use Rattle.decimal.specs.Texts.{padded, digit_count, sign_text, sign_length, whole_text, text_of}
 use Rattle.decimal.specs.declared.Decimal.{Decimal}
 use Rattle.decimal.proofs.Digits.{digit, length_padded, padded_at, digit_count_range}
@@ -91,7 +92,14 @@ minus_at : (d : Decimal) → d.negative ≡ true → get_or (text_of d) 0 0 ≡ 
 unfolding text_of
 minus_at d e = rw e
 
-module _ (d : Decimal) (i s p : ℕ) (signs : s ≡ sign_size d) (digits : p ≡ whole_size d) where
+pub sign_bytes : (b : Bool) → from_bool b ≡ sign_length b
+sign_bytes true = refl
+sign_bytes false = refl
+
+module _ (d : Decimal) (i s p : ℕ) (sign_is : s ≡ from_bool d.negative) (digits : p ≡ whole_size d) where
+  signs : s ≡ sign_size d
+  signs = sign_is ∙ sign_bytes d.negative
+
   pub length_is : s + p + 10 ≡ length (text_of d)
   length_is = rw (signs, digits) (sym (length_text d))
 

@@ -22,7 +22,7 @@ use Rattle.float64.specs.Internals.{units_at, units_of_bits}
 use Rattle.float64.proofs.Patterns.{of_bits_is, fields_units}
 use Rattle.decimal.specs.Decimals.{is_in_range, count_of, decimal_of, round_of}
 use Rattle.decimal.specs.declared.Decimal.{Decimal}
-use Rattle.decimal.specs.declared.DecimalResult.TheVariants.{Number, Refused}
+use Rattle.std.specs.Prelude.{Some, None}
 
 -- ---- an f64 with a value: its sign s and its number n of units
 
@@ -62,11 +62,11 @@ decimal_of_lem : (x : Float) (s : Bool) (n : ℕ) → HasValue x s n (2 ^ 1074) 
 unfolding decimal_of
 decimal_of_lem x s n h = ap (λ (t : Bool). decimal_with t (count_of x)) (sign_of x s n h) ∙ ap (decimal_with s) (count_of_lem x s n h)
 
-pub round_in_range : (x : Float) → is_in_range x ≡ true → round_of x ≡ Number (decimal_of x)
+pub round_in_range : (x : Float) → is_in_range x ≡ true → round_of x ≡ Some (decimal_of x)
 unfolding round_of
 round_in_range x e = rw e
 
-pub round_out_of_range : (x : Float) → is_in_range x ≡ false → round_of x ≡ Refused
+pub round_out_of_range : (x : Float) → is_in_range x ≡ false → round_of x ≡ None
 unfolding round_of
 round_out_of_range x e = rw e
 
@@ -205,16 +205,16 @@ pub small_decimal : (b : ℕ) → b % 2 ^ 63 < 0x4163_12D0_0000_0000
 small_decimal b h = decimal_of_lem (bits b) (leb (2 ^ 63) b) (units_of_bits (b % 2 ^ 63)) (small_value b h)
 
 pub number_returned : (x : Float) → T (fits binary64 x) → (b count : ℕ) → b ≡ bits_of x → b % 2 ^ 63 < 0x4163_12D0_0000_0000
-    → count ≡ closest (units_of_bits (b % 2 ^ 63) * 10 ^ 9) (2 ^ 1074) → Number (decimal_with (leb (2 ^ 63) b) count) ≡ round_of x
+    → count ≡ closest (units_of_bits (b % 2 ^ 63) * 10 ^ 9) (2 ^ 1074) → Some (decimal_with (leb (2 ^ 63) b) count) ≡ round_of x
 number_returned x f b count e h k =
     let back : bits b ≡ x = ap bits e ∙ of_bits-to_bits binary64 x f in
-    ap (λ (n : ℕ). Number (decimal_with (leb (2 ^ 63) b) n)) k
-    ∙ ap Number (sym (small_decimal b h))
+    ap (λ (n : ℕ). Some (decimal_with (leb (2 ^ 63) b) n)) k
+    ∙ ap Some (sym (small_decimal b h))
     ∙ sym (round_in_range (bits b) (small_in_range b h))
     ∙ ap round_of back
 
 pub refusal_returned : (x : Float) → T (fits binary64 x) → (b : ℕ) → b ≡ bits_of x → 0x4163_12D0_0000_0000 ≤ b % 2 ^ 63
-    → Refused ≡ round_of x
+    → None ≡ round_of x
 refusal_returned x f b e h =
     let back : bits b ≡ x = ap bits e ∙ of_bits-to_bits binary64 x f in
     sym (round_out_of_range (bits b) (large_out_of_range b h)) ∙ ap round_of back

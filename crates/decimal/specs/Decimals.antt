@@ -1,13 +1,11 @@
 -- An f64 as a decimal number with nine decimals: its sign, its whole part and its billionths (02, A10). Definitions only.
 -- A finite f64 is n units of 2 ^ -1074, so its size is n * 10 ^ 9 / 2 ^ 1074 billionths.
-use Rattle.std.specs.Prelude.{ℕ, ◌*◌, ◌/◌, ◌%◌, ◌^◌, Bool, ◌&&◌, cond, ltb, Float}
+use Rattle.std.specs.Prelude.{ℕ, ◌*◌, ◌/◌, ◌%◌, ◌^◌, Bool, ◌&&◌, cond, ltb, Float, Option, Some, None}
 use Rattle.std.specs.Float.Ieee.Nearest.{closest}
 use Rattle.float64.specs.Root.{units_of}
 use Rattle.float64.specs.Value.{finite_of}
 use Rattle.float64.specs.Nearness.{negative}
 use Rattle.decimal.specs.declared.Decimal.{Decimal}
-use Rattle.decimal.specs.declared.DecimalResult.{DecimalResult}
-use Rattle.decimal.specs.declared.DecimalResult.TheVariants.{Number, Refused}
 
 -- Whether an f64 has a decimal: it is finite and its size is below 10 ^ 7.
 unfoldable pub is_in_range : Float → Bool
@@ -27,7 +25,7 @@ decimal_of x = record {
   billionths = count_of x % 10 ^ 9;
 }
 
--- What `round` returns.
-unfoldable pub round_of : Float → DecimalResult
+-- What `round` returns: the decimal of an f64 in range, and `None` for any other.
+unfoldable pub round_of : Float → Option Decimal
 unfolding is_in_range decimal_of
-round_of x = cond (is_in_range x) (Number (decimal_of x)) Refused
+round_of x = cond (is_in_range x) (Some (decimal_of x)) None

@@ -1,9 +1,8 @@
 -- The text of a decimal, as bytes of ASCII, and which bytes are the text of a decimal (02, A10). Definitions only.
-use Rattle.std.specs.Prelude.{ℕ, zero, suc, ◌+◌, ◌-◌, ◌*◌, ◌/◌, ◌%◌, ◌^◌, Bool, true, false, cond, not, ◌&&◌, ◌||◌, eqb, ltb}
-use Rattle.std.specs.Prelude.{List, [], ◌∷◌, ◌++◌, length, get_or}
+use Rattle.std.specs.Prelude.{ℕ, zero, suc, ◌+◌, ◌-◌, ◌*◌, ◌/◌, ◌%◌, ◌^◌, Bool, cond, not, ◌&&◌, ◌||◌, eqb, ltb}
+use Rattle.std.specs.Prelude.{List, [], ◌∷◌, ◌++◌, length, get_or, Option, Some, None}
+use Rattle.std.specs.Str.{bytes_eq}
 use Rattle.decimal.specs.declared.Decimal.{Decimal}
-use Rattle.decimal.specs.declared.DecimalResult.{DecimalResult}
-use Rattle.decimal.specs.declared.DecimalResult.TheVariants.{Number, Refused}
 
 -- ---- the text of a decimal
 
@@ -65,20 +64,13 @@ unfoldable pub is_well_formed : Decimal → Bool
 is_well_formed d =
     ltb d.whole (10 ^ 7) && ltb d.billionths (10 ^ 9) && (not d.negative || ltb 0 d.whole || ltb 0 d.billionths)
 
--- Whether two texts are equal.
-unfoldable pub same_text : List ℕ → List ℕ → Bool
-same_text [] [] = true
-same_text [] (c ∷ t) = false
-same_text (b ∷ s) [] = false
-same_text (b ∷ s) (c ∷ t) = eqb b c && same_text s t
-
 -- Whether bytes are the text of a well-formed decimal. It is enough to compare them with the text of the decimal that they show, because
 -- the text of a well-formed decimal shows that decimal (the theorem is in the crate decimal_laws).
 unfoldable pub is_decimal_text : List ℕ → Bool
-unfolding decimal_in text_of is_well_formed same_text
-is_decimal_text s = is_well_formed (decimal_in s) && same_text s (text_of (decimal_in s))
+unfolding decimal_in text_of is_well_formed
+is_decimal_text s = is_well_formed (decimal_in s) && bytes_eq s (text_of (decimal_in s))
 
--- What `parse` returns.
-unfoldable pub parse_of : List ℕ → DecimalResult
+-- What `parse` returns: the decimal whose text the bytes are, and `None` if they are no text of a decimal.
+unfoldable pub parse_of : List ℕ → Option Decimal
 unfolding is_decimal_text decimal_in
-parse_of s = cond (is_decimal_text s) (Number (decimal_in s)) Refused
+parse_of s = cond (is_decimal_text s) (Some (decimal_in s)) None

@@ -15,23 +15,16 @@ pub use parsing::parse;
 pub use texts::{Text, text_of};
 
 // A number with nine decimals: its sign, its whole part, and the billionths after the point.
-#[derive(Clone, Copy)]
+#[derive(Clone, Copy, Debug, PartialEq, Eq)]
 pub struct Decimal {
     pub negative: bool,
     pub whole: u64,
     pub billionths: u64,
 }
 
-// A decimal, or a refusal.
-#[derive(Clone, Copy)]
-pub enum DecimalResult {
-    Number(Decimal),
-    Refused,
-}
-
-// Rounds x to nine decimals: to the nearest, ties to even. It refuses an infinity, a NaN, and a size of 10^7 or more. A
-// number that rounds to zero has no minus sign.
-pub fn round(x: f64) -> DecimalResult
+// Rounds x to nine decimals: to the nearest, ties to even. It returns `None` for an infinity, a NaN, and a size of 10^7 or
+// more. A number that rounds to zero has no minus sign.
+pub fn round(x: f64) -> Option<Decimal>
     ensures { result ≡ round_of x }
 {
     let b = float64::to_bits(x);
@@ -39,12 +32,12 @@ pub fn round(x: f64) -> DecimalResult
     // This is the pattern of 10^7. The patterns of greater numbers, of infinity and of the NaNs are above it.
     if size < 0x4163_12D0_0000_0000 {
         let count = count_of(size);
-        DecimalResult::Number(Decimal {
+        Some(Decimal {
             negative: (0x8000_0000_0000_0000 <= b) & (0 < count),
             whole: count / 1_000_000_000,
             billionths: count % 1_000_000_000,
         })
     } else {
-        DecimalResult::Refused
+        None
     }
 }

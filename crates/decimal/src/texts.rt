@@ -1,61 +1,28 @@
 // The text of a decimal: a minus sign or nothing, the whole part without needless leading zeros, a point and nine
 // digits.
 ghost use Rattle.std.specs.Prelude.{◌≡◌, ◌++◌, ◌+◌, ◌-◌, ◌/◌, ◌%◌, ◌^◌, ◌<◌, ◌≤◌, length, get_or, replicate};
-ghost use Rattle.decimal.specs.Texts.{digit_count, sign_length, text_of};
+ghost use Rattle.decimal.specs.Texts.{digit_count, text_of};
 
 use crate::Decimal;
+use std::array;
 
-// A text of at most 18 bytes: its bytes with zeros after them, and its length.
+// A text of at most 18 bytes: its bytes with zeros after them, and its length. The project uses no heap, so the bytes are in an array.
 #[derive(Clone, Copy)]
 pub struct Text {
     pub bytes: [u8; 18],
     pub length: usize,
 }
 
-// Returns the number of digits that a whole part is written with.
+// Returns the number of digits that a whole part is written with: the least that is enough, but at most seven.
 fn digit_count(n: u64) -> usize
     ensures { (result ≡ digit_count n) × (1 ≤ result) × (result ≤ 7) }
 {
-    if n < 10 {
-        1
-    } else if n < 100 {
-        2
-    } else if n < 1_000 {
-        3
-    } else if n < 10_000 {
-        4
-    } else if n < 100_000 {
-        5
-    } else if n < 1_000_000 {
-        6
-    } else {
-        7
+    for count in 1..7 {
+        if n < 10u64.pow(count as u32) {
+            return count;
+        }
     }
-}
-
-// Returns the number of bytes that the sign takes.
-fn sign_length(negative: bool) -> usize
-    ensures { (result ≡ sign_length negative) × (result ≤ 1) }
-{
-    if negative { 1 } else { 0 }
-}
-
-// Returns 10^k.
-fn power_of_ten(k: usize) -> u64
-    requires { k < 9 }
-    ensures { result ≡ 10 ^ k }
-{
-    match k {
-        0 => 1,
-        1 => 10,
-        2 => 100,
-        3 => 1_000,
-        4 => 10_000,
-        5 => 100_000,
-        6 => 1_000_000,
-        7 => 10_000_000,
-        _ => 100_000_000,
-    }
+    7
 }
 
 // Returns the decimal digit of n that counts 10^k, in ASCII.
@@ -63,21 +30,21 @@ fn digit(n: u64, k: usize) -> u8
     requires { k < 9 }
     ensures { result ≡ 48 + n / 10 ^ k % 10 }
 {
-    (48 + n / power_of_ten(k) % 10) as u8
+    (48 + n / 10u64.pow(k as u32) % 10) as u8
 }
 
 // Returns the length of the text of d, which is 11 to 18.
-pub(crate) fn text_length(d: Decimal) -> usize
+fn text_length(d: Decimal) -> usize
     ensures { (result ≡ length (text_of d)) × (result ≤ 18) }
 {
-    sign_length(d.negative) + digit_count(d.whole) + 10
+    usize::from(d.negative) + digit_count(d.whole) + 10
 }
 
 // Returns the byte i of the text of d, or 0 if the text is shorter.
-pub(crate) fn text_byte(d: Decimal, i: usize) -> u8
+fn text_byte(d: Decimal, i: usize) -> u8
     ensures { result ≡ get_or (text_of d) i 0 }
 {
-    let start = sign_length(d.negative);
+    let start = usize::from(d.negative);
     let point = start + digit_count(d.whole);
     if i < start {
         return b'-';
@@ -100,12 +67,8 @@ pub(crate) fn text_byte(d: Decimal, i: usize) -> u8
 pub fn text_of(d: Decimal) -> Text
     ensures { (result.bytes ≡ text_of d ++ replicate (18 - length (text_of d)) 0) × (result.length ≡ length (text_of d)) }
 {
-    let n = text_length(d);
-    let mut bytes = [0u8; 18];
-    let mut i = 0;
-    while i < n {
-        bytes[i] = text_byte(d, i);
-        i += 1;
+    Text {
+        bytes: array::from_fn(|i| text_byte(d, i)),
+        length: text_length(d),
     }
-    Text { bytes, length: n }
 }

@@ -9,11 +9,11 @@ use Rattle.float64.specs.Value.{finite_of}
 use Rattle.float64.specs.Notation.{bits}
 use Rattle.decimal.specs.Decimals.{decimal_of, round_of}
 use Rattle.decimal.specs.Texts.{text_of, parse_of}
-use Rattle.decimal.specs.declared.DecimalResult.{DecimalResult}
-use Rattle.decimal.specs.declared.DecimalResult.TheVariants.{Number, Refused}
+use Rattle.std.specs.Prelude.{Option, Some, None}
+use Rattle.decimal.specs.declared.Decimal.{Decimal}
 
-abbrev number : Bool → ℕ → ℕ → DecimalResult
-number s w b = Number (record { negative = s; whole = w; billionths = b })
+abbrev number : Bool → ℕ → ℕ → Option Decimal
+number s w b = Some (record { negative = s; whole = w; billionths = b })
 
 -- 1/1024 is 0.0009765625, and 3/1024 is 0.0029296875. The first tie is rounded down and the second one up.
 pub tie_down : round_of (bits 0x3F50_0000_0000_0000) ≡ number false 0 976562
@@ -34,7 +34,7 @@ unfolding round_of of_bits finite_of
 greatest = refl
 
 -- -10 ^ 7
-pub limit : round_of (bits 0xC163_12D0_0000_0000) ≡ Refused
+pub limit : round_of (bits 0xC163_12D0_0000_0000) ≡ None
 unfolding round_of of_bits finite_of
 limit = refl
 
@@ -57,11 +57,11 @@ pub light : round_of (bits 0x4112_4C41_D4FD_F3B6) ≡ number false 299792 458000
 unfolding round_of of_bits finite_of
 light = refl
 
-pub infinite : round_of (bits 0x7FF0_0000_0000_0000) ≡ Refused
+pub infinite : round_of (bits 0x7FF0_0000_0000_0000) ≡ None
 unfolding round_of of_bits finite_of
 infinite = refl
 
-pub not_a_number : round_of (bits 0x7FF8_0000_0000_0000) ≡ Refused
+pub not_a_number : round_of (bits 0x7FF8_0000_0000_0000) ≡ None
 unfolding round_of of_bits finite_of
 not_a_number = refl
 
@@ -84,21 +84,21 @@ unfolding parse_of
 parsed = refl
 
 -- -0.000000000
-pub minus_zero_refused : parse_of (45 ∷ 48 ∷ 46 ∷ 48 ∷ 48 ∷ 48 ∷ 48 ∷ 48 ∷ 48 ∷ 48 ∷ 48 ∷ 48 ∷ []) ≡ Refused
+pub minus_zero_refused : parse_of (45 ∷ 48 ∷ 46 ∷ 48 ∷ 48 ∷ 48 ∷ 48 ∷ 48 ∷ 48 ∷ 48 ∷ 48 ∷ 48 ∷ []) ≡ None
 unfolding parse_of
 minus_zero_refused = refl
 
 -- 00.500000000
-pub needless_zero_refused : parse_of (48 ∷ 48 ∷ 46 ∷ 53 ∷ 48 ∷ 48 ∷ 48 ∷ 48 ∷ 48 ∷ 48 ∷ 48 ∷ 48 ∷ []) ≡ Refused
+pub needless_zero_refused : parse_of (48 ∷ 48 ∷ 46 ∷ 53 ∷ 48 ∷ 48 ∷ 48 ∷ 48 ∷ 48 ∷ 48 ∷ 48 ∷ 48 ∷ []) ≡ None
 unfolding parse_of
 needless_zero_refused = refl
 
 -- 10000000.000000000
-pub eight_digits_refused : parse_of (49 ∷ 48 ∷ 48 ∷ 48 ∷ 48 ∷ 48 ∷ 48 ∷ 48 ∷ 46 ∷ 48 ∷ 48 ∷ 48 ∷ 48 ∷ 48 ∷ 48 ∷ 48 ∷ 48 ∷ 48 ∷ []) ≡ Refused
+pub eight_digits_refused : parse_of (49 ∷ 48 ∷ 48 ∷ 48 ∷ 48 ∷ 48 ∷ 48 ∷ 48 ∷ 46 ∷ 48 ∷ 48 ∷ 48 ∷ 48 ∷ 48 ∷ 48 ∷ 48 ∷ 48 ∷ 48 ∷ []) ≡ None
 unfolding parse_of
 eight_digits_refused = refl
 
 -- Eight decimals only: 1.00000000
-pub eight_decimals_refused : parse_of (49 ∷ 46 ∷ 48 ∷ 48 ∷ 48 ∷ 48 ∷ 48 ∷ 48 ∷ 48 ∷ 48 ∷ []) ≡ Refused
+pub eight_decimals_refused : parse_of (49 ∷ 46 ∷ 48 ∷ 48 ∷ 48 ∷ 48 ∷ 48 ∷ 48 ∷ 48 ∷ 48 ∷ []) ≡ None
 unfolding parse_of
 eight_decimals_refused = refl

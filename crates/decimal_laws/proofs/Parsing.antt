@@ -11,12 +11,13 @@ use lib.Dec.{T, eqb}
 use lib.ListN.{length, get_or}
 use lib.Ieee.{Float, binary64, fits}
 use Rattle.decimal.specs.Decimals.{is_in_range, decimal_of}
-use Rattle.decimal.specs.Texts.{sign_text, sign_length, value_at, decimal_in, is_well_formed, same_text, text_of, is_decimal_text, parse_of}
+use Rattle.decimal.specs.Texts.{sign_text, sign_length, value_at, decimal_in, is_well_formed, text_of, is_decimal_text, parse_of}
 use Rattle.decimal.specs.declared.Decimal.{Decimal}
-use Rattle.decimal.specs.declared.DecimalResult.TheVariants.{Number, Refused}
+use Rattle.std.specs.Prelude.{Some, None}
+use Rattle.std.specs.Str.{bytes_eq}
+use Rattle.std.proofs.lemmas.Slice.Eq.{bytes_eq-Decides}
 use Rattle.decimal.proofs.Digits.{digit_count_range}
 use Rattle.decimal.proofs.TextBytes.{sign_size, whole_size, unsigned, length_text, whole_at, at_whole, at_billionths}
-use Rattle.decimal.proofs.SameTexts.{same_true, same_equal}
 use Rattle.decimal.proofs.ParseCases.{parse_number, parse_refused}
 use Rattle.decimal_laws.specs.Parsing.{IsTextOf, Parses}
 use Rattle.decimal_laws.proofs.WellFormed.{formed}
@@ -77,7 +78,7 @@ unfolding is_decimal_text
 is_text d w =
     let t = text_of d in
     let back = decimal_in_text d w in
-    let same : same_text t (text_of (decimal_in t)) ≡ true = same_equal t (text_of (decimal_in t)) (ap text_of (sym back)) in
+    let same = (bytes_eq-Decides t (text_of (decimal_in t))).1 (ap text_of (sym back)) in
     ap (λ (b : Bool). is_well_formed (decimal_in t) && b) same ∙ and-true (is_well_formed (decimal_in t)) ∙ ap is_well_formed back ∙ w
 
 both : (a b : Bool) → a && b ≡ true → (a ≡ true) × (b ≡ true)
@@ -88,19 +89,19 @@ pub text_shown : (s : List ℕ) → is_decimal_text s ≡ true → IsTextOf s (d
 unfolding is_decimal_text
 text_shown s e =
     let t = text_of (decimal_in s) in
-    let parts = both (is_well_formed (decimal_in s)) (same_text s t) e in
-    record { well_formed = parts.0; text = same_true s t parts.1 }
+    let parts = both (is_well_formed (decimal_in s)) (bytes_eq s t) e in
+    record { well_formed = parts.0; text = (bytes_eq-Decides s t).0 parts.1 }
 
 -- ---- `parse`
 
 -- The text of a well-formed decimal is read back as that decimal.
-pub read_back : (d : Decimal) → is_well_formed d ≡ true → parse_of (text_of d) ≡ Number d
-read_back d w = parse_number (text_of d) (is_text d w) ∙ ap Number (decimal_in_text d w)
+pub read_back : (d : Decimal) → is_well_formed d ≡ true → parse_of (text_of d) ≡ Some d
+read_back d w = parse_number (text_of d) (is_text d w) ∙ ap Some (decimal_in_text d w)
 
 pub parses : (s : List ℕ) → Parses s
 parses s = record { accepted = λ d e. accepts d e (is_decimal_text s) refl; complete = completes; refused = refuses }
   where
-    accepts : (d : Decimal) → parse_of s ≡ Number d → (b : Bool) → is_decimal_text s ≡ b → IsTextOf s d
+    accepts : (d : Decimal) → parse_of s ≡ Some d → (b : Bool) → is_decimal_text s ≡ b → IsTextOf s d
     accepts d e true t =
         let n = parse_number s t in
         let same : decimal_in s ≡ d = cc in
@@ -110,15 +111,15 @@ parses s = record { accepted = λ d e. accepts d e (is_decimal_text s) refl; com
         let z : ◌≡◌ {A = ℕ} 0 1 = cc in
         absurd (omega arith)
 
-    completes : (d : Decimal) → IsTextOf s d → parse_of s ≡ Number d
+    completes : (d : Decimal) → IsTextOf s d → parse_of s ≡ Some d
     completes d t = ap parse_of t.text ∙ read_back d t.well_formed
 
-    refuses : parse_of s ≡ Refused → (d : Decimal) → IsTextOf s d → ⊥
+    refuses : parse_of s ≡ None → (d : Decimal) → IsTextOf s d → ⊥
     refuses e d t =
         let n = completes d t in
         let z : ◌≡◌ {A = ℕ} 0 1 = cc in
         omega arith
 
 -- For every f64 in range, what was rounded and written is read back.
-pub rounded_read_back : (x : Float) → T (fits binary64 x) → is_in_range x ≡ true → parse_of (text_of (decimal_of x)) ≡ Number (decimal_of x)
+pub rounded_read_back : (x : Float) → T (fits binary64 x) → is_in_range x ≡ true → parse_of (text_of (decimal_of x)) ≡ Some (decimal_of x)
 rounded_read_back x f e = read_back (decimal_of x) (decimal_well_formed x f e)

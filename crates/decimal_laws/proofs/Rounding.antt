@@ -20,21 +20,21 @@ use Rattle.float64.specs.Internals.{units_of_bits}
 use Rattle.decimal.specs.Decimals.{is_in_range, count_of, decimal_of, round_of}
 use Rattle.decimal.specs.Texts.{is_well_formed}
 use Rattle.decimal.specs.declared.Decimal.{Decimal}
-use Rattle.decimal.specs.declared.DecimalResult.TheVariants.{Number}
+use Rattle.std.specs.Prelude.{Some, is_none}
 use Rattle.decimal.proofs.Values.{units_of_lem, greatest, units_most, small_value, large_out_of_range, decimal_with}
 use Rattle.decimal.proofs.Values.{round_in_range, round_out_of_range}
-use Rattle.decimal_laws.specs.Rounding.{count_in, NearestDecimal, refused, IsRounded}
+use Rattle.decimal_laws.specs.Rounding.{count_in, NearestDecimal, IsRounded}
 use Rattle.decimal_laws.proofs.Nearest.{nearest_count}
 use Rattle.decimal_laws.proofs.WellFormed.{Formed, is_formed}
 
 -- ---- what is refused
 
-refused_round : (x : Float) → refused (round_of x) ≡ not (is_in_range x)
+refused_round : (x : Float) → is_none (round_of x) ≡ not (is_in_range x)
 refused_round x = by (is_in_range x) refl
   where
-    by : (b : Bool) → is_in_range x ≡ b → refused (round_of x) ≡ not b
-    by true e = ap refused (round_in_range x e)
-    by false e = ap refused (round_out_of_range x e)
+    by : (b : Bool) → is_in_range x ≡ b → is_none (round_of x) ≡ not b
+    by true e = ap is_none (round_in_range x e)
+    by false e = ap is_none (round_out_of_range x e)
 
 not_both : (a : Bool) (n m : ℕ) → not (a && ltb n m) ≡ not a || leb m n
 not_both false n m = refl
@@ -44,7 +44,7 @@ not_both true n m = by (ltb n m) refl
     by true e = sym (lt-leb m n (ltb-true n m e))
     by false e = sym (le-leb m n (ltb-false n m e))
 
-refused_if : (x : Float) → refused (round_of x) ≡ not (finite_of x) || leb (10 ^ 7 * 2 ^ 1074) (units_of x)
+refused_if : (x : Float) → is_none (round_of x) ≡ not (finite_of x) || leb (10 ^ 7 * 2 ^ 1074) (units_of x)
 unfolding is_in_range
 refused_if x = refused_round x ∙ not_both (finite_of x) (units_of x) (10 ^ 7 * 2 ^ 1074)
 
@@ -110,7 +110,7 @@ nearest_decimal x f e =
 pub is_rounded : (x : Float) → T (fits binary64 x) → IsRounded x (round_of x)
 is_rounded x f = record { refused_if = refused_if x; number_is = λ d e. by d e (is_in_range x) refl }
   where
-    by : (d : Decimal) → round_of x ≡ Number d → (b : Bool) → is_in_range x ≡ b → NearestDecimal x d
+    by : (d : Decimal) → round_of x ≡ Some d → (b : Bool) → is_in_range x ≡ b → NearestDecimal x d
     by d e true p =
         let g = round_in_range x p in
         let same : decimal_of x ≡ d = cc in

@@ -1,13 +1,11 @@
 -- What it means that a decimal is the nearest one to an f64, over whole numbers only (02, A10). Definitions only; proofs/Rounding.antt
 -- shows that `round_of` satisfies them.
-use Rattle.std.specs.Prelude.{◌≡◌, ◌⊎◌, Bool, true, false, not, ◌||◌, ℕ, ◌+◌, ◌-◌, ◌*◌, ◌%◌, ◌^◌, ◌≤◌, ◌<◌, leb, Float}
+use Rattle.std.specs.Prelude.{◌≡◌, ◌⊎◌, true, not, ◌||◌, ℕ, ◌+◌, ◌-◌, ◌*◌, ◌%◌, ◌^◌, ◌≤◌, ◌<◌, leb, Float, Option, Some, is_none}
 use Rattle.float64.specs.Value.{finite_of}
 use Rattle.float64.specs.Root.{units_of}
 use Rattle.float64.specs.Nearness.{negative}
 use Rattle.decimal.specs.Texts.{is_well_formed}
 use Rattle.decimal.specs.declared.Decimal.{Decimal}
-use Rattle.decimal.specs.declared.DecimalResult.{DecimalResult}
-use Rattle.decimal.specs.declared.DecimalResult.TheVariants.{Number, Refused}
 
 -- The distance between two numbers.
 abbrev pub distance : ℕ → ℕ → ℕ
@@ -33,13 +31,8 @@ pub record NearestDecimal (x : Float) (d : Decimal) : Type 0 where
   -- The greatest f64 below 10 ^ 7 is 10 ^ 7 - 2 ^ -29. It rounds to 9999999.999999998, so a whole part of 10 ^ 7 never occurs.
   pub count_limit : count_in d ≤ 9999999999999998
 
--- Whether a number is refused.
-abbrev pub refused : DecimalResult → Bool
-refused (Number d) = false
-refused Refused = true
-
--- r is x rounded to nine decimals. x is refused exactly if it is not finite or its size is 10 ^ 7 or more. Otherwise r is the nearest
+-- r is x rounded to nine decimals, or `None` if x is refused. x is refused exactly if it is not finite or its size is 10 ^ 7 or more. Otherwise r is the nearest
 -- decimal.
-pub record IsRounded (x : Float) (r : DecimalResult) : Type 0 where
-  pub refused_if : refused r ≡ (not (finite_of x) || leb (10 ^ 7 * 2 ^ 1074) (units_of x))
-  pub number_is : (d : Decimal) → r ≡ Number d → NearestDecimal x d
+pub record IsRounded (x : Float) (r : Option Decimal) : Type 0 where
+  pub refused_if : is_none r ≡ (not (finite_of x) || leb (10 ^ 7 * 2 ^ 1074) (units_of x))
+  pub number_is : (d : Decimal) → r ≡ Some d → NearestDecimal x d

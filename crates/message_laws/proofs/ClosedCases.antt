@@ -5,6 +5,7 @@ use mathlib.Core.Bool.{true, false}
 use mathlib.Core.List.{List, [], ◌∷◌, ◌++◌}
 use Prim.Native.Nat.{ℕ, ◌+◌}
 use lib.ListN.{replicate}
+use Rattle.std.specs.Prelude.{Ok, Err}
 use Rattle.float64.specs.Notation.{bits}
 use Rattle.little_endian.specs.Bytes.{bytes_of, number_at}
 use Rattle.records.specs.Layout.{head_size, entry_size, V1X}
@@ -17,8 +18,8 @@ use Rattle.orbit_message.specs.Templates.{values_in}
 use Rattle.orbit_message.specs.Messages.{keys, version, line, lines, message_of, template}
 use Rattle.orbit_message.specs.Reading.{vector_in, state_in, are_values, result_for, read_of}
 use Rattle.orbit_message.specs.Writing.{departure_velocity}
-use Rattle.orbit_message.specs.declared.states.State as state
-use Rattle.orbit_message.specs.declared.reader.ReadResult.TheVariants.{State, Refused}
+use Rattle.orbit_message.specs.declared.states.State.{State}
+use Rattle.orbit_message.specs.declared.refusals.Refusal.TheVariants.{NotAMessage}
 
 abbrev decimal : ℕ → ℕ → Decimal
 decimal w b = record { negative = false; whole = w; billionths = b }
@@ -48,7 +49,7 @@ sample =
     ++ (ascii "EPOCH = 2026-11-18T09:15:00\nX = 7000.000000000\nY = 0.000000000\nZ = 0.000976562\n"
     ++ ascii "X_DOT = -0.418738387\nY_DOT = 7.868158575\nZ_DOT = 0.327839941\n"))
 
-unfoldable pub numbers : state.State
+unfoldable pub numbers : State
 numbers =
     record {
       position = record { x = decimal 7000 0; y = decimal 0 0; z = decimal 0 976562 };
@@ -60,13 +61,13 @@ pub sample_message : message_of texts (decimal 7000 0 ∷ decimal 0 0 ∷ decima
 unfolding texts sample message_of keys version lines line ascii text_of
 sample_message = refl
 
-pub sample_read : read_of sample ≡ State numbers
+pub sample_read : read_of sample ≡ Ok numbers
 unfolding numbers sample read_of template keys version lines line ascii values_in result_for are_values state_in vector_in every
     is_legal is_printable is_decimal_text
 sample_read = refl
 
 -- One more LF at the end.
-pub further_line_refused : read_of (sample ++ (10 ∷ [])) ≡ Refused 10
+pub further_line_refused : read_of (sample ++ (10 ∷ [])) ≡ Err NotAMessage
 unfolding sample read_of template keys version lines line ascii values_in result_for
 further_line_refused = refl
 

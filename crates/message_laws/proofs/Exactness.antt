@@ -9,16 +9,19 @@ use borrow.Author.Tests.{eqb-true, eq-eqb}
 use lib.Dec.{eqb}
 use lib.ListN.{length, take, drop, length-drop, length-map, take-append-drop}
 use lib.Seq.{take_at, drop_at, length-take-le}
+use Rattle.std.specs.Prelude.{Result, Ok, Err}
 use Rattle.decimal.specs.Texts.{text_of, decimal_in, is_well_formed, is_decimal_text}
 use Rattle.decimal.specs.declared.Decimal.{Decimal}
 use Rattle.decimal_laws.proofs.Parsing.{decimal_in_text, is_text, text_shown}
-use Rattle.orbit_message.specs.Templates.{Values, found, no_match, values_in}
+use Rattle.std.specs.Prelude.{Some, None}
+use Rattle.orbit_message.specs.Templates.{Values, values_in}
 use Rattle.orbit_message.specs.Texts.{every, is_legal, are_texts}
 use Rattle.orbit_message.specs.Messages.{keys, version, lines, message_of, template}
 use Rattle.orbit_message.specs.Reading.{vector_in, state_in, are_values, result_for, read_of}
 use Rattle.orbit_message.specs.States.{state_numbers}
-use Rattle.orbit_message.specs.declared.states.State as state
-use Rattle.orbit_message.specs.declared.reader.ReadResult.TheVariants.{State, Refused}
+use Rattle.orbit_message.specs.declared.states.State.{State}
+use Rattle.orbit_message.specs.declared.refusals.Refusal.{Refusal}
+use Rattle.orbit_message.specs.declared.refusals.Refusal.TheVariants.{NotAMessage}
 use Rattle.orbit_message.proofs.EveryElement.{both}
 use Rattle.orbit_message.proofs.TemplateValues.{zero_is_one, values_sound, values_complete}
 use Rattle.orbit_message.proofs.MessageTemplate.{message_filled, values_end_lines, fourteen_placeholders}
@@ -86,7 +89,7 @@ state_numbers_lem (a ∷ (b ∷ (c ∷ (d ∷ (f ∷ (g ∷ (h ∷ ws))))))) e =
 -- ---- the values of a message
 
 pub message_values : (s : List ℕ) (ts : List (List ℕ)) (ns : List Decimal) → IsMessage s ts ns →
-    values_in template s ≡ found (ts ++ map text_of ns)
+    values_in template s ≡ Some (ts ++ map text_of ns)
 unfolding message_of
 message_values s ts ns m =
     let values = ts ++ map text_of ns in
@@ -107,7 +110,7 @@ after_eight ts ws e = drop_at ts ws 8 (eight_texts ts e).0
 
 -- ---- what is accepted
 
-accepted_values : (s : List ℕ) (vs : List (List ℕ)) → values_in template s ≡ found vs → are_values vs ≡ true →
+accepted_values : (s : List ℕ) (vs : List (List ℕ)) → values_in template s ≡ Some vs → are_values vs ≡ true →
     IsMessage s (take 8 vs) (state_numbers (state_in (drop 8 vs)))
 unfolding are_values message_of
 accepted_values s vs e f =
@@ -128,25 +131,25 @@ accepted_values s vs e f =
       same = is.same ∙ message_filled vs fourteen ∙ ap (λ (l : List (List ℕ)). lines keys (version ∷ l)) (sym whole);
     }
 
-accepted : (s : List ℕ) (n : state.State) → read_of s ≡ State n → (ts : List (List ℕ)) × IsMessage s ts (state_numbers n)
+accepted : (s : List ℕ) (n : State) → read_of s ≡ Ok n → (ts : List (List ℕ)) × IsMessage s ts (state_numbers n)
 unfolding read_of result_for
 accepted s n e = by (values_in template s) refl e
   where
-    by : (r : Values) → values_in template s ≡ r → result_for r ≡ State n → (ts : List (List ℕ)) × IsMessage s ts (state_numbers n)
-    by no_match f g = zero_is_one (cc)
-    by (found vs) f g = tested (are_values vs) refl g
+    by : (r : Values) → values_in template s ≡ r → result_for r ≡ Ok n → (ts : List (List ℕ)) × IsMessage s ts (state_numbers n)
+    by None f g = zero_is_one (cc)
+    by (Some vs) f g = tested (are_values vs) refl g
       where
-        tested : (b : Bool) → are_values vs ≡ b → cond b (State (state_in (drop 8 vs))) (Refused 10) ≡ State n →
+        tested : (b : Bool) → are_values vs ≡ b → cond b (Ok (state_in (drop 8 vs))) (Err NotAMessage) ≡ Ok n →
             (ts : List (List ℕ)) × IsMessage s ts (state_numbers n)
         tested true h i =
             let same : state_in (drop 8 vs) ≡ n = cc in
-            (take 8 vs, subst (λ (x : state.State). IsMessage s (take 8 vs) (state_numbers x)) same (accepted_values s vs f h))
+            (take 8 vs, subst (λ (x : State). IsMessage s (take 8 vs) (state_numbers x)) same (accepted_values s vs f h))
         tested false h i = zero_is_one (cc)
 
 -- ---- what is complete
 
 complete : (s : List ℕ) (ts : List (List ℕ)) (ns : List Decimal) → IsMessage s ts ns →
-    (n : state.State) × (read_of s ≡ State n) × (state_numbers n ≡ ns)
+    (n : State) × (read_of s ≡ Ok n) × (state_numbers n ≡ ns)
 unfolding read_of result_for are_values
 complete s ts ns m =
     let ws = map text_of ns in
@@ -159,20 +162,20 @@ complete s ts ns m =
 
 -- ---- what is refused
 
-refusal_number : (s : List ℕ) (k : ℕ) → read_of s ≡ Refused k → k ≡ 10
+only_refusal : (s : List ℕ) (r : Refusal) → read_of s ≡ Err r → r ≡ NotAMessage
 unfolding read_of result_for
-refusal_number s k e = by (values_in template s) e
+only_refusal s r e = by (values_in template s) e
   where
-    tested : (vs : List (List ℕ)) (b : Bool) → cond b (State (state_in (drop 8 vs))) (Refused 10) ≡ Refused k → k ≡ 10
+    tested : (vs : List (List ℕ)) (b : Bool) → cond b (Ok (state_in (drop 8 vs))) (Err NotAMessage) ≡ Err r → r ≡ NotAMessage
     tested vs true i = zero_is_one (cc)
     tested vs false i = cc
 
-    by : (r : Values) → result_for r ≡ Refused k → k ≡ 10
-    by no_match g = cc
-    by (found vs) g = tested vs (are_values vs) g
+    by : (found_values : Values) → result_for found_values ≡ Err r → r ≡ NotAMessage
+    by None g = cc
+    by (Some vs) g = tested vs (are_values vs) g
 
-refused : (s : List ℕ) (k : ℕ) → read_of s ≡ Refused k → (k ≡ 10) × ((ts : List (List ℕ)) (ns : List Decimal) → IsMessage s ts ns → ⊥)
-refused s k e = (refusal_number s k e, λ ts ns m. let is = (complete s ts ns m).1 in zero_is_one (cc))
+refused : (s : List ℕ) (r : Refusal) → read_of s ≡ Err r → (r ≡ NotAMessage) × ((ts : List (List ℕ)) (ns : List Decimal) → IsMessage s ts ns → ⊥)
+refused s r e = (only_refusal s r e, λ ts ns m. let is = (complete s ts ns m).1 in zero_is_one (cc))
 
 pub reads_exactly : (s : List ℕ) → ReadsExactly s
 reads_exactly s = record { accepted = accepted s; complete = complete s; refused = refused s }
@@ -193,16 +196,16 @@ one_message s ts us ns ms p q =
     let values = sym (after_eight ts (map text_of ns) p.legal) ∙ ap (drop 8) same ∙ after_eight us (map text_of ms) q.legal in
     (texts, same_numbers ns ms p.well_formed q.well_formed values)
   where
-    both_found : {a b : List (List ℕ)} → values_in template s ≡ found a → values_in template s ≡ found b → a ≡ b
+    both_found : {a b : List (List ℕ)} → values_in template s ≡ Some a → values_in template s ≡ Some b → a ≡ b
     both_found f g = cc
 
 -- What was accepted, written again from the numbers read and its own texts, is the same bytes.
-pub written_again : (s : List ℕ) (n : state.State) (ts : List (List ℕ)) (ns : List Decimal) → read_of s ≡ State n → IsMessage s ts ns →
+pub written_again : (s : List ℕ) (n : State) (ts : List (List ℕ)) (ns : List Decimal) → read_of s ≡ Ok n → IsMessage s ts ns →
     message_of ts (state_numbers n) ≡ s
 written_again s n ts ns e m =
     let read = complete s ts ns m in
     let same : read.0 ≡ n = state_of_lem (sym read.1 ∙ e) in
-    ap (λ (x : state.State). message_of ts (state_numbers x)) (sym same) ∙ ap (message_of ts) read.2 ∙ sym m.same
+    ap (λ (x : State). message_of ts (state_numbers x)) (sym same) ∙ ap (message_of ts) read.2 ∙ sym m.same
   where
-    state_of_lem : {a b : state.State} → State a ≡ State b → a ≡ b
+    state_of_lem : {a b : State} → ◌≡◌ {A = Result State Refusal} (Ok a) (Ok b) → a ≡ b
     state_of_lem f = cc

@@ -5,28 +5,41 @@ use mathlib.Core.Bool.{Bool, true, false, cond, not, ◌||◌}
 use mathlib.Core.List.{List, [], ◌∷◌}
 use Prim.Native.Nat.{ℕ}
 use lib.Dec.{eqb}
+use Rattle.std.specs.Prelude.{Option, Some, None, Ok, Err}
 use Rattle.float64.specs.declared.Vector.{Vector}
 use Rattle.decimal.specs.Decimals.{is_in_range}
 use Rattle.little_endian.specs.Bytes.{has_room, written}
 use Rattle.records.specs.Layout.{refusal_kind, kind_of, number_of}
 use Rattle.outcomes.specs.Outcomes.{is_between, is_outcome}
 use Rattle.orbit_message.specs.Texts.{every, texts_in, are_texts}
-use Rattle.orbit_message.specs.Writing.{Result, put_of, write_of}
-use Rattle.orbit_message.specs.declared.writer.WriteResult.TheVariants.{Message, Refused}
+use Rattle.orbit_message.specs.Writing.{WriteResult, put_of, write_of}
+use Rattle.orbit_message.specs.declared.refusals.Refusal.{Refusal}
+use Rattle.orbit_message.specs.declared.refusals.Refusal.TheVariants.{NotAnAnswer, IllegalTexts, NoSuchEntry}
+use Rattle.orbit_message.specs.declared.refusals.Refusal.TheVariants.{OutOfRange, SmallBuffer}
 use Rattle.orbit_message.proofs.TemplateValues.{zero_is_one}
 use Rattle.message_laws.specs.Refusals.{Condition, condition, first_that_holds, numbers, message, conditions}
 use Rattle.message_laws.specs.Refusals.{result_of_first, RefusesExactly}
 
 module _ (answer : List ℕ) (entry : ℕ) (r1 : Vector) (texts out : List ℕ) where
-  abbrev result : ℕ → Result
-  result k = result_of_first answer entry r1 texts out k
+  abbrev result : Option Refusal → WriteResult
+  result first = result_of_first answer entry r1 texts out first
 
   -- The chain of the definition, and the list of conditions, for any five truth values.
-  abbrev chain : Bool → Bool → Bool → Bool → Bool → Result
-  chain a b c d e = cond a (result 1) (cond b (result 5) (cond c (result 6) (cond d (result 7) (cond e (result 8) (result 0)))))
+  abbrev chain : Bool → Bool → Bool → Bool → Bool → WriteResult
+  chain a b c d e =
+      cond a (result (Some NotAnAnswer))
+      (cond b (result (Some IllegalTexts))
+      (cond c (result (Some NoSuchEntry))
+      (cond d (result (Some OutOfRange)) (cond e (result (Some SmallBuffer)) (result None)))))
 
   abbrev listed : Bool → Bool → Bool → Bool → Bool → List Condition
-  listed a b c d e = condition 1 a ∷ condition 5 b ∷ condition 6 c ∷ condition 7 d ∷ condition 8 e ∷ []
+  listed a b c d e =
+      condition NotAnAnswer a
+      ∷ condition IllegalTexts b
+      ∷ condition NoSuchEntry c
+      ∷ condition OutOfRange d
+      ∷ condition SmallBuffer e
+      ∷ []
 
   first : (a b c d e : Bool) → chain a b c d e ≡ result (first_that_holds (listed a b c d e))
   unfolding first_that_holds
@@ -37,16 +50,16 @@ module _ (answer : List ℕ) (entry : ℕ) (r1 : Vector) (texts out : List ℕ) 
   first false false false false true = refl
   first false false false false false = refl
 
-  refused : (a b c d e : Bool) (k : ℕ) → (chain a b c d e).result ≡ Refused k → first_that_holds (listed a b c d e) ≡ k
+  refused : (a b c d e : Bool) (r : Refusal) → (chain a b c d e).result ≡ Err r → first_that_holds (listed a b c d e) ≡ Some r
   unfolding first_that_holds
-  refused true b c d e k h = cc
-  refused false true c d e k h = cc
-  refused false false true d e k h = cc
-  refused false false false true e k h = cc
-  refused false false false false true k h = cc
-  refused false false false false false k h = zero_is_one (cc)
+  refused true b c d e r h = cc
+  refused false true c d e r h = cc
+  refused false false true d e r h = cc
+  refused false false false true e r h = cc
+  refused false false false false true r h = cc
+  refused false false false false false r h = zero_is_one (cc)
 
-  put_message : (a b c d e : Bool) (n : ℕ) → (chain a b c d e).result ≡ Message n → first_that_holds (listed a b c d e) ≡ 0
+  put_message : (a b c d e : Bool) (n : ℕ) → (chain a b c d e).result ≡ Ok n → first_that_holds (listed a b c d e) ≡ None
   unfolding first_that_holds
   put_message true b c d e n h = zero_is_one (cc)
   put_message false true c d e n h = zero_is_one (cc)
@@ -73,7 +86,7 @@ module _ (answer : List ℕ) (entry : ℕ) (r1 : Vector) (texts out : List ℕ) 
 
   -- The last link of the chain.
   last : (b : Bool) → has_room out (message answer entry r1 texts out) ≡ b →
-      put_of (message answer entry r1 texts out) out ≡ cond (not b) (result 8) (result 0)
+      put_of (message answer entry r1 texts out) out ≡ cond (not b) (result (Some SmallBuffer)) (result None)
   unfolding put_of written
   last true e = rw e
   last false e = rw e
@@ -82,14 +95,17 @@ module _ (answer : List ℕ) (entry : ℕ) (r1 : Vector) (texts out : List ℕ) 
   unfolding write_of
   is_chain =
       let room = has_room out (message answer entry r1 texts out) in
-      ap (λ (r : Result). cond b1 (result 1) (cond b5 (result 5) (cond b6 (result 6) (cond b7 (result 7) r)))) (last room refl)
+      let before : WriteResult → WriteResult = λ r.
+      cond b1 (result (Some NotAnAnswer))
+      (cond b5 (result (Some IllegalTexts)) (cond b6 (result (Some NoSuchEntry)) (cond b7 (result (Some OutOfRange)) r))) in
+      ap before (last room refl)
 
   pub refuses_exactly : RefusesExactly answer entry r1 texts out
   unfolding conditions
   refuses_exactly =
-      let told = sym (ap (λ (r : Result). r.result) is_chain) in
+      let told = sym (ap (λ (r : WriteResult). r.result) is_chain) in
       record {
         result_is = is_chain ∙ first b1 b5 b6 b7 b8;
-        refused = λ k e. refused b1 b5 b6 b7 b8 k (told ∙ e);
+        refused = λ r e. refused b1 b5 b6 b7 b8 r (told ∙ e);
         written = λ n e. put_message b1 b5 b6 b7 b8 n (told ∙ e);
       }

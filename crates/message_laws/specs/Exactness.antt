@@ -1,13 +1,14 @@
 -- The bytes that `read` accepts (02, A10). Definitions only; proofs/Exactness.antt has the theorems.
-use Rattle.std.specs.Prelude.{◌≡◌, true, List, ℕ, ◌≤◌, length}
+use Rattle.std.specs.Prelude.{◌≡◌, true, List, ℕ, ◌≤◌, length, Ok, Err}
 use Rattle.decimal.specs.Texts.{is_well_formed}
 use Rattle.decimal.specs.declared.Decimal.{Decimal}
 use Rattle.orbit_message.specs.Texts.{every, are_texts}
 use Rattle.orbit_message.specs.Messages.{message_of}
 use Rattle.orbit_message.specs.Reading.{read_of}
 use Rattle.orbit_message.specs.States.{state_numbers}
-use Rattle.orbit_message.specs.declared.states.State as state
-use Rattle.orbit_message.specs.declared.reader.ReadResult.TheVariants.{State, Refused}
+use Rattle.orbit_message.specs.declared.states.State.{State}
+use Rattle.orbit_message.specs.declared.refusals.Refusal.{Refusal}
+use Rattle.orbit_message.specs.declared.refusals.Refusal.TheVariants.{NotAMessage}
 
 -- s is the message of eight legal texts and six well-formed numbers.
 pub record IsMessage (s : List ℕ) (ts : List (List ℕ)) (ns : List Decimal) : Type 0 where
@@ -16,14 +17,14 @@ pub record IsMessage (s : List ℕ) (ts : List (List ℕ)) (ns : List Decimal) :
   pub well_formed : every is_well_formed ns ≡ true
   pub same : s ≡ message_of ts ns
 
--- `read` returns six numbers exactly if s is the message of some eight legal texts and of these numbers. It refuses s, always with B10,
--- only if s is no message.
+-- `read` returns six numbers exactly if s is the message of some eight legal texts and of these numbers. It refuses s, always with
+-- `NotAMessage` (B10), only if s is no message.
 pub record ReadsExactly (s : List ℕ) : Type 0 where
-  pub accepted : (n : state.State) → read_of s ≡ State n → (ts : List (List ℕ)) × IsMessage s ts (state_numbers n)
+  pub accepted : (n : State) → read_of s ≡ Ok n → (ts : List (List ℕ)) × IsMessage s ts (state_numbers n)
   pub complete : (ts : List (List ℕ)) (ns : List Decimal) → IsMessage s ts ns →
-      (n : state.State) × (read_of s ≡ State n) × (state_numbers n ≡ ns)
-  pub refused : (k : ℕ) → read_of s ≡ Refused k →
-      (k ≡ 10) × ((ts : List (List ℕ)) (ns : List Decimal) → IsMessage s ts ns → ⊥)
+      (n : State) × (read_of s ≡ Ok n) × (state_numbers n ≡ ns)
+  pub refused : (r : Refusal) → read_of s ≡ Err r →
+      (r ≡ NotAMessage) × ((ts : List (List ℕ)) (ns : List Decimal) → IsMessage s ts ns → ⊥)
 
 -- A message has at least 248 and at most 762 bytes.
 pub record LengthBounds (s : List ℕ) : Type 0 where

@@ -3,6 +3,7 @@
 use mathlib.Core.Path.{◌≡◌, refl, ap, ◌∙◌}
 use mathlib.Core.Bool.{Bool, true, false, ◌&&◌, false≢true}
 use mathlib.Core.List.{List, [], ◌∷◌, ◌++◌}
+use Rattle.std.specs.List.{list_all}
 use Rattle.orbit_message.specs.Texts.{every}
 
 -- ---- conjunctions
@@ -25,6 +26,12 @@ both true false e = absurd (false≢true e)
 both false b e = absurd (false≢true e)
 
 -- ---- every
+
+-- `every` is the library's test of all elements.
+pub every_is : {A : Type 0} (test : A → Bool) (l : List A) → every test l ≡ list_all test l
+unfolding every
+every_is test [] = refl
+every_is test (a ∷ l) = ap (λ (b : Bool). test a && b) (every_is test l)
 
 pub every_append : {A : Type 0} (test : A → Bool) (k l : List A) → every test (k ++ l) ≡ every test k && every test l
 unfolding every

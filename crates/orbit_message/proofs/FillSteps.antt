@@ -1,4 +1,4 @@
--- The steps of filling a template. `byte_stored` is the store of `push`, and `next_byte_stored` is one turn of the loop of `append`.
+-- The steps of filling a template. `byte_stored` is the store of `push`.
 -- `value_is` gives the value k of a match. `value_fill_step` and `byte_fill_step` are the cases of `fill_step`: a 0 of the template, and
 -- another byte. `next_byte`, `filled_next` and `filled_at_end` are the steps of the loop of `fill`. Its invariant is that the bytes
 -- written, followed by the rest of the template filled with the values left, are the whole template filled with all values.
@@ -11,7 +11,7 @@ use native.Mathlib.Omega.{arith}
 use borrow.Author.Tests.{ltb-true, ltb-false}
 use lib.Dec.{ltb}
 use lib.ListN.{length, get_or, drop, take, set, length-append, length-drop, drop_of_length-le, get_or-append}
-use lib.Seq.{drop-cons, take-suc, take-suc-set, get_or-drop, get_or_at}
+use lib.Seq.{drop-cons, take-suc-set, get_or_at, length-take-le}
 use Rattle.orbit_message.specs.Templates.{filled, placeholders_in}
 use Rattle.orbit_message.specs.Matches.{part, values_between, matched_values}
 use Rattle.orbit_message.specs.Fillings.{Fits, filled_bytes, FillStep}
@@ -23,25 +23,11 @@ use Rattle.orbit_message.specs.declared.filling.Filling.{Filling}
 pub byte_stored : (b : List ℕ) (n v : ℕ) → n < length b → take (n + 1) (set b n v) ≡ take n b ++ (v ∷ [])
 byte_stored b n v h = rw add-one (take-suc-set b n v h)
 
--- If i bytes of s, from the offset a on, follow the first n bytes, then after one more store i + 1 bytes of s do.
-pub next_byte_stored : (old b s : List ℕ) (a n i : ℕ) → n + i < length b → a + i < length s →
-    take (n + i) b ≡ take n old ++ take i (drop a s) →
-    take (n + (i + 1)) (set b (n + i) (get_or s (a + i) 0)) ≡ take n old ++ take (i + 1) (drop a s)
-next_byte_stored old b s a n i h k e =
-    let v = get_or s (a + i) 0 in
-    let from = drop a s in
-    let next : n + (i + 1) ≡ suc (n + i) = omega arith in
-    let inside : i < length from = simp length-drop (omega arith) in
-    let longer : take i from ++ (get_or from i 0 ∷ []) ≡ take (i + 1) from =
-    sym (take-suc from i 0 inside) ∙ ap (λ (x : ℕ). take x from) (sym (add-one i)) in
-    ap (λ (x : ℕ). take x (set b (n + i) v)) next
-    ∙ take-suc-set b (n + i) v h
-    ∙ ap (λ (l : List ℕ). l ++ (v ∷ [])) e
-    ∙ append_assoc (take n old) (take i from) (v ∷ [])
-    ∙ ap (λ (x : ℕ). take n old ++ (take i from ++ (x ∷ []))) (sym (get_or-drop a s i 0))
-    ∙ ap (λ (l : List ℕ). take n old ++ l) longer
-
 -- ---- the values of a match
+
+-- The length of a value.
+pub part_size : (s : List ℕ) (a e : ℕ) → a ≤ e → e ≤ length s → length (part s a e) ≡ e - a
+part_size s a e h k = length-take-le (e - a) (drop a s) (simp length-drop (omega arith))
 
 pub length_values : (s starts ends : List ℕ) (n : ℕ) → length (values_between s starts ends n) ≡ n
 unfolding values_between

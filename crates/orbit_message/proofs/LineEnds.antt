@@ -1,28 +1,54 @@
--- The end of a line. `rest_after_byte`, `rest_at_feed` and `rest_at_end` are the steps of `line_end`: a byte that is not an LF, an LF, and
--- the end of the bytes. `part_is_line` shows that the bytes up to the end of the line are the line.
-use mathlib.Core.Path.{◌≡◌, sym, ap, ◌∙◌}
-use mathlib.Core.List.{List}
-use Prim.Native.Nat.{ℕ, ◌+◌, ◌-◌, ◌≤◌, ◌<◌}
-use native.Mathlib.Numerals.{add-one}
+-- The end of a line. `feed_found` and `no_feed` are the cases of `line_end`: the bytes after the line start at the first LF, or there is
+-- none. `part_is_line` shows that the bytes up to the end of the line are the line.
+use mathlib.Core.Path.{◌≡◌, refl, sym, ap, ◌∙◌}
+use mathlib.Core.Bool.{Bool, true, false, cond}
+use mathlib.Core.List.{List, [], ◌∷◌}
+use Prim.Native.Nat.{ℕ, suc, ◌+◌, ◌-◌, ◌≤◌}
 use native.Mathlib.Omega.{arith}
-use borrow.Author.Tests.{eq-eqb, ne_eqb}
-use lib.ListN.{length, get_or, drop, take, length-append, length-drop, drop_of_length-le}
-use lib.Seq.{drop-cons, take_at}
+use borrow.Author.Tests.{ltb-true, ltb-false}
+use lib.Dec.{eqb, ltb}
+use lib.ListN.{length, drop, take, length-append, length-drop, drop_of_length-le}
+use lib.Seq.{take_at}
+use Rattle.std.specs.Prelude.{Option, Some, None}
+use Rattle.std.specs.List.{position, position_or_len}
 use Rattle.orbit_message.specs.Templates.{line_in, after_line}
 use Rattle.orbit_message.specs.Matches.{part}
-use Rattle.orbit_message.proofs.TemplateValues.{line_then_rest}
+use Rattle.orbit_message.proofs.TemplateValues.{zero_is_one, line_then_rest}
 
-pub rest_after_byte : (s : List ℕ) (i : ℕ) → i < length s → (get_or s i 0 ≡ 10 → ⊥) → after_line (drop (i + 1) s) ≡ after_line (drop i s)
-unfolding after_line
-rest_after_byte s i h n = rw (add-one, drop-cons s i 0, ne_eqb (get_or s i 0) 10 n)
+-- The test for an LF.
+abbrev pub is_feed : ℕ → Bool
+is_feed b = eqb b 10
 
-pub rest_at_feed : (s : List ℕ) (i : ℕ) → i < length s → get_or s i 0 ≡ 10 → drop i s ≡ after_line (drop i s)
+-- The bytes from the first LF on.
+from_feed : (l : List ℕ) → drop (position_or_len is_feed l) l ≡ after_line l
 unfolding after_line
-rest_at_feed s i h e = rw (drop-cons s i 0, eq-eqb (get_or s i 0) 10 e)
+from_feed [] = refl
+from_feed (c ∷ l) = by (from_feed l) (eqb c 10) refl
+  where
+    by : drop (position_or_len is_feed l) l ≡ after_line l → (b : Bool) → eqb c 10 ≡ b →
+        drop (position_or_len is_feed (c ∷ l)) (c ∷ l) ≡ cond (eqb c 10) (c ∷ l) (after_line l)
+    by rest true e = rw e
+    by rest false e =
+        let one : 1 + position_or_len is_feed l ≡ suc (position_or_len is_feed l) = omega arith in
+        rw (e, one) rest
 
-pub rest_at_end : (s : List ℕ) (i : ℕ) → length s ≤ i → drop i s ≡ after_line (drop i s)
-unfolding after_line
-rest_at_end s i h = rw (drop_of_length-le s h)
+pub feed_found : (l : List ℕ) (r : Option ℕ) (k : ℕ) → r ≡ position is_feed l → r ≡ Some k → (k ≤ length l) × (drop k l ≡ after_line l)
+feed_found l r k e f = by (ltb (position_or_len is_feed l) (length l)) refl e
+  where
+    by : (b : Bool) → ltb (position_or_len is_feed l) (length l) ≡ b → r ≡ cond b (Some (position_or_len is_feed l)) None →
+        (k ≤ length l) × (drop k l ≡ after_line l)
+    by true g h =
+        let within = ltb-true (position_or_len is_feed l) (length l) g in
+        let here : position_or_len is_feed l ≡ k = cc in
+        (omega arith, ap (λ (n : ℕ). drop n l) (sym here) ∙ from_feed l)
+    by false g h = zero_is_one cc
+
+pub no_feed : (l : List ℕ) (r : Option ℕ) → r ≡ position is_feed l → r ≡ None → [] ≡ after_line l
+no_feed l r e f = by (ltb (position_or_len is_feed l) (length l)) refl e
+  where
+    by : (b : Bool) → ltb (position_or_len is_feed l) (length l) ≡ b → r ≡ cond b (Some (position_or_len is_feed l)) None → [] ≡ after_line l
+    by true g h = zero_is_one cc
+    by false g h = sym (drop_of_length-le l (ltb-false (position_or_len is_feed l) (length l) g)) ∙ from_feed l
 
 -- If the bytes from e on are those after the line that starts at a, then the bytes from a up to e are this line, because
 -- they have the same length.

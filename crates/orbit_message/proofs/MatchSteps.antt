@@ -13,7 +13,8 @@ use lib.Dec.{eqb, ltb}
 use lib.ListN.{length, get_or, drop, set, drop_of_length-le}
 use lib.Seq.{drop-cons, get_or-set_same, get_or-set_other}
 use Rattle.orbit_message.specs.Templates.{placeholders_in}
-use Rattle.orbit_message.specs.Templates.{line_in, after_line, Values, found, no_match, prepend, values_in}
+use Rattle.std.specs.Prelude.{Some, None}
+use Rattle.orbit_message.specs.Templates.{line_in, after_line, Values, prepend, values_in}
 use Rattle.orbit_message.specs.Matches.{part, values_between, matched_values, progress, Inside, Advance, IsMatch}
 use Rattle.orbit_message.specs.declared.matching.Match.{Match}
 use Rattle.orbit_message.proofs.LineEnds.{part_is_line}
@@ -39,8 +40,8 @@ one_more_value s starts ends k a e h g =
     rw (add-one, before, get_or-set_same starts k a 0, get_or-set_same ends k e 0)
 
 prepend_twice : (us vs : List (List ℕ)) (r : Values) → prepend us (prepend vs r) ≡ prepend (us ++ vs) r
-prepend_twice us vs (found ws) = ap found (sym (append_assoc us vs ws))
-prepend_twice us vs no_match = refl
+prepend_twice us vs (Some ws) = ap Some (sym (append_assoc us vs ws))
+prepend_twice us vs None = refl
 
 -- ---- a 0 of the template
 
@@ -102,7 +103,7 @@ value_step s d e ls le k h g f =
       within = g;
       counted = λ t. omega arith;
       inside = value_inside s d e ks ke h g;
-      goes_on = λ t. ap (λ (r : Values). cond d.matches r no_match) (value_result s t d e ks ke h g f);
+      goes_on = λ t. ap (λ (r : Values). cond d.matches r None) (value_result s t d e ks ke h g f);
     }
 
 -- ---- another byte of the template
@@ -127,7 +128,7 @@ byte_step s d (suc c) n h =
     }
   where
     by : (f b : Bool) (r : Values) →
-        cond f (prepend (matched_values s d) (cond b r no_match)) no_match ≡ cond (f && b) (prepend (matched_values s d) r) no_match
+        cond f (prepend (matched_values s d) (cond b r None)) None ≡ cond (f && b) (prepend (matched_values s d) r) None
     by true true r = refl
     by true false r = refl
     by false b r = refl
@@ -145,7 +146,7 @@ end_step s d (suc c) n h g =
       goes_on = λ t. rw (drop_of_length-le s h) (by d.matches);
     }
   where
-    by : (f : Bool) → cond f no_match no_match ≡ no_match
+    by : (f : Bool) → ◌≡◌ {A = Values} (cond f None None) None
     by true = refl
     by false = refl
 
@@ -157,8 +158,8 @@ unfolding progress values_between
 progress_start t s d f a k = rw (f, a, k) (none (values_in t s))
   where
     none : (r : Values) → prepend [] r ≡ r
-    none (found vs) = refl
-    none no_match = refl
+    none (Some vs) = refl
+    none None = refl
 
 -- If the next byte of the template is a 0, fewer than fourteen values are found so far.
 pub placeholder_left : (t : List ℕ) (i n : ℕ) → i < length t → placeholders_in t ≤ 14 →
@@ -199,17 +200,17 @@ match_at_end t s i d h g e ins f =
       outcome = result ∙ by (eqb d.at (length s)) refl;
     }
   where
-    at_end : (f : Bool) → cond f (found (matched_values s d ++ [])) no_match ≡ cond (f && true) (found (matched_values s d)) no_match
-    at_end true = ap found (append-nil (matched_values s d))
+    at_end : (f : Bool) → cond f (Some (matched_values s d ++ [])) None ≡ cond (f && true) (Some (matched_values s d)) None
+    at_end true = ap Some (append-nil (matched_values s d))
     at_end false = refl
 
-    bytes_left : (f : Bool) → cond f no_match no_match ≡ cond (f && false) (found (matched_values s d)) no_match
+    bytes_left : (f : Bool) → cond f None None ≡ cond (f && false) (Some (matched_values s d)) None
     bytes_left true = refl
     bytes_left false = refl
 
     by : (b : Bool) → eqb d.at (length s) ≡ b →
-        cond d.matches (prepend (matched_values s d) (values_in [] (drop d.at s))) no_match
-        ≡ cond (d.matches && b) (found (matched_values s d)) no_match
+        cond d.matches (prepend (matched_values s d) (values_in [] (drop d.at s))) None
+        ≡ cond (d.matches && b) (Some (matched_values s d)) None
     by true q =
         let same = eqb-true d.at (length s) q in
         let over : length s ≤ d.at = omega arith in

@@ -6,8 +6,8 @@ use mathlib.Core.Bool.{Bool, true, false, cond, ◌&&◌}
 use mathlib.Core.List.{List, [], ◌∷◌, ◌++◌}
 use Prim.Native.Nat.{ℕ}
 use lib.ListN.{take, drop}
+use Rattle.std.specs.Prelude.{Option, Some, None, Result, Ok, Err}
 use Rattle.decimal.specs.Texts.{is_decimal_text}
-use Rattle.orbit_message.specs.Templates.{found, no_match}
 use Rattle.orbit_message.specs.Texts.{every, is_legal}
 use Rattle.orbit_message.specs.Messages.{template}
 use Rattle.orbit_message.specs.Reading.{vector_in, state_in, are_values, result_for, read_of}
@@ -15,24 +15,25 @@ use Rattle.orbit_message.specs.Matches.{matched_value, values_between, IsMatch}
 use Rattle.orbit_message.specs.States.{vector_shown}
 use Rattle.orbit_message.specs.declared.matching.Match.{Match}
 use Rattle.orbit_message.specs.declared.states.DecimalVector.{DecimalVector}
-use Rattle.orbit_message.specs.declared.states.VectorResult as vector
-use Rattle.orbit_message.specs.declared.reader.ReadResult as result
+use Rattle.orbit_message.specs.declared.states.State.{State}
+use Rattle.orbit_message.specs.declared.refusals.Refusal.{Refusal}
+use Rattle.orbit_message.specs.declared.refusals.Refusal.TheVariants.{NotAMessage}
 use Rattle.orbit_message.proofs.EveryElement.{and-false, every_append}
-use Rattle.orbit_message.proofs.StateCases.{vector_refused, vector_there}
+use Rattle.orbit_message.proofs.StateCases.{test_failed, test_passed}
 use Rattle.orbit_message.proofs.MessageTemplate.{fourteen_placeholders}
 
 -- ---- the result for any values
 
-texts_fail : (vs : List (List ℕ)) → every is_legal (take 8 vs) ≡ false → result.TheVariants.Refused 10 ≡ result_for (found vs)
+texts_fail : (vs : List (List ℕ)) → every is_legal (take 8 vs) ≡ false → Err NotAMessage ≡ result_for (Some vs)
 unfolding result_for are_values
 texts_fail vs e = rw e
 
-numbers_fail : (vs : List (List ℕ)) → every is_decimal_text (drop 8 vs) ≡ false → result.TheVariants.Refused 10 ≡ result_for (found vs)
+numbers_fail : (vs : List (List ℕ)) → every is_decimal_text (drop 8 vs) ≡ false → Err NotAMessage ≡ result_for (Some vs)
 unfolding result_for are_values
 numbers_fail vs e = rw (e, and-false (every is_legal (take 8 vs)))
 
 all_pass : (vs : List (List ℕ)) → every is_legal (take 8 vs) ≡ true → every is_decimal_text (drop 8 vs) ≡ true →
-    result.TheVariants.State (state_in (drop 8 vs)) ≡ result_for (found vs)
+    Ok (state_in (drop 8 vs)) ≡ result_for (Some vs)
 unfolding result_for are_values
 all_pass vs e f = rw (e, f)
 
@@ -60,50 +61,50 @@ module _ (s : List ℕ) (m : Match) (is : IsMatch template s m) where
   unfolding values values_between
   last_six = refl
 
-  read_is : read_of s ≡ result_for (cond m.matches (found values) no_match)
+  read_is : read_of s ≡ result_for (cond m.matches (Some values) None)
   unfolding read_of values
   read_is =
       let all = ap (values_between s m.starts m.ends) (is.count_is ∙ fourteen_placeholders) in
-      ap result_for (is.outcome ∙ ap (λ (vs : List (List ℕ)). cond m.matches (found vs) no_match) all)
+      ap result_for (is.outcome ∙ ap (λ (vs : List (List ℕ)). cond m.matches (Some vs) None) all)
 
-  pub not_template : m.matches ≡ false → result.TheVariants.Refused 10 ≡ read_of s
+  pub not_template : m.matches ≡ false → Err NotAMessage ≡ read_of s
   unfolding result_for
-  not_template e = sym (read_is ∙ ap (λ (b : Bool). result_for (cond b (found values) no_match)) e)
+  not_template e = sym (read_is ∙ ap (λ (b : Bool). result_for (cond b (Some values) None)) e)
 
-  found_is : m.matches ≡ true → result_for (found values) ≡ read_of s
-  found_is e = sym (read_is ∙ ap (λ (b : Bool). result_for (cond b (found values) no_match)) e)
+  found_is : m.matches ≡ true → result_for (Some values) ≡ read_of s
+  found_is e = sym (read_is ∙ ap (λ (b : Bool). result_for (cond b (Some values) None)) e)
 
-  pub not_legal : m.matches ≡ true → every is_legal texts ≡ false → result.TheVariants.Refused 10 ≡ read_of s
+  pub not_legal : m.matches ≡ true → every is_legal texts ≡ false → Err NotAMessage ≡ read_of s
   not_legal e f = texts_fail values (ap (every is_legal) first_eight ∙ f) ∙ found_is e
 
   numbers : every is_decimal_text (drop 8 values) ≡ every is_decimal_text position && every is_decimal_text velocity
   numbers = ap (every is_decimal_text) last_six ∙ every_append is_decimal_text position velocity
 
-  pub not_position : m.matches ≡ true → (p : vector.VectorResult) → p ≡ vector_shown position → p ≡ vector.TheVariants.Refused →
-      result.TheVariants.Refused 10 ≡ read_of s
+  pub not_position : m.matches ≡ true → (p : Option DecimalVector) → p ≡ vector_shown position → p ≡ None →
+      Err NotAMessage ≡ read_of s
   unfolding vector_shown
   not_position e p f g =
-      let none = vector_refused (every is_decimal_text position) (vector_in position) p f g in
+      let none = test_failed (every is_decimal_text position) (vector_in position) p f g in
       numbers_fail values (numbers ∙ rw none) ∙ found_is e
 
-  pub not_velocity : m.matches ≡ true → (q : vector.VectorResult) → q ≡ vector_shown velocity → q ≡ vector.TheVariants.Refused →
-      result.TheVariants.Refused 10 ≡ read_of s
+  pub not_velocity : m.matches ≡ true → (q : Option DecimalVector) → q ≡ vector_shown velocity → q ≡ None →
+      Err NotAMessage ≡ read_of s
   unfolding vector_shown
   not_velocity e q f g =
-      let none = vector_refused (every is_decimal_text velocity) (vector_in velocity) q f g in
+      let none = test_failed (every is_decimal_text velocity) (vector_in velocity) q f g in
       numbers_fail values (numbers ∙ rw (none, and-false (every is_decimal_text position))) ∙ found_is e
 
   shown : (x y : DecimalVector) → x ≡ vector_in position → y ≡ vector_in velocity →
-      result.TheVariants.State (record { position = x; velocity = y }) ≡ result.TheVariants.State (state_in (drop 8 values))
+      ◌≡◌ {A = Result State Refusal} (Ok (record { position = x; velocity = y })) (Ok (state_in (drop 8 values)))
   unfolding state_in vector_in values values_between
   shown x y e f = rw (e, f)
 
-  pub is_message : m.matches ≡ true → every is_legal texts ≡ true → (p q : vector.VectorResult) (x y : DecimalVector) →
-      p ≡ vector_shown position → p ≡ vector.TheVariants.Of x → q ≡ vector_shown velocity → q ≡ vector.TheVariants.Of y →
-      result.TheVariants.State (record { position = x; velocity = y }) ≡ read_of s
+  pub is_message : m.matches ≡ true → every is_legal texts ≡ true → (p q : Option DecimalVector) (x y : DecimalVector) →
+      p ≡ vector_shown position → p ≡ Some x → q ≡ vector_shown velocity → q ≡ Some y →
+      Ok (record { position = x; velocity = y }) ≡ read_of s
   unfolding vector_shown
   is_message e f p q x y g h i j =
-      let first = vector_there (every is_decimal_text position) (vector_in position) x p g h in
-      let second = vector_there (every is_decimal_text velocity) (vector_in velocity) y q i j in
+      let first = test_passed (every is_decimal_text position) (vector_in position) x p g h in
+      let second = test_passed (every is_decimal_text velocity) (vector_in velocity) y q i j in
       let legal = ap (every is_legal) first_eight ∙ f in
       shown x y first.1 second.1 ∙ all_pass values legal (numbers ∙ rw (first.0, second.0)) ∙ found_is e

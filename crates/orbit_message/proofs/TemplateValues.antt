@@ -11,7 +11,8 @@ use borrow.Author.Tests.{eq-eqb, ne_eqb, eqb-true, eqb-false}
 use lib.Dec.{eqb}
 use lib.ListN.{length}
 use Rattle.orbit_message.specs.Templates.{filled, placeholders_in, StartsWithLineFeed, ValuesEndLines, OneLine, OneLineEach, IsFilled}
-use Rattle.orbit_message.specs.Templates.{line_in, after_line, Values, found, no_match, prepend, values_in}
+use Rattle.std.specs.Prelude.{Some, None}
+use Rattle.orbit_message.specs.Templates.{line_in, after_line, Values, prepend, values_in}
 
 -- ---- the first line of bytes and the bytes after it
 
@@ -71,7 +72,7 @@ byte_fills_itself {c} {b} {t} {s} e f =
 pub zero_is_one : {A : Type 0} → ◌≡◌ {A = ℕ} 0 1 → A
 zero_is_one e = absurd (omega arith)
 
-pub values_sound : (t s : List ℕ) (vs : List (List ℕ)) → values_in t s ≡ found vs → IsFilled t s vs
+pub values_sound : (t s : List ℕ) (vs : List (List ℕ)) → values_in t s ≡ Some vs → IsFilled t s vs
 unfolding values_in filled placeholders_in OneLineEach
 values_sound [] [] vs e =
     let none : [] ≡ vs = cc in
@@ -79,17 +80,17 @@ values_sound [] [] vs e =
 values_sound [] (c ∷ s) vs e = zero_is_one cc
 values_sound (zero ∷ t) s vs e = by (λ us f. values_sound t (after_line s) us f) (values_in t (after_line s)) refl e
   where
-    by : ((us : List (List ℕ)) → values_in t (after_line s) ≡ found us → IsFilled t (after_line s) us) →
-        (r : Values) → values_in t (after_line s) ≡ r → prepend (line_in s ∷ []) r ≡ found vs → IsFilled (0 ∷ t) s vs
-    by rest (found us) f g =
+    by : ((us : List (List ℕ)) → values_in t (after_line s) ≡ Some us → IsFilled t (after_line s) us) →
+        (r : Values) → values_in t (after_line s) ≡ r → prepend (line_in s ∷ []) r ≡ Some vs → IsFilled (0 ∷ t) s vs
+    by rest (Some us) f g =
         let first : line_in s ∷ us ≡ vs = cc in
         subst (IsFilled (0 ∷ t) s) first (line_fills_placeholder us (rest us f))
-    by rest no_match f g = zero_is_one cc
+    by rest None f g = zero_is_one cc
 values_sound (suc c ∷ t) [] vs e = zero_is_one cc
 values_sound (suc c ∷ t) (b ∷ s) vs e = by (λ f. values_sound t s vs f) (eqb b (suc c)) refl e
   where
-    by : (values_in t s ≡ found vs → IsFilled t s vs) →
-        (x : Bool) → eqb b (suc c) ≡ x → cond x (values_in t s) no_match ≡ found vs → IsFilled (suc c ∷ t) (b ∷ s) vs
+    by : (values_in t s ≡ Some vs → IsFilled t s vs) →
+        (x : Bool) → eqb b (suc c) ≡ x → cond x (values_in t s) None ≡ Some vs → IsFilled (suc c ∷ t) (b ∷ s) vs
     by rest true f g = byte_fills_itself (eqb-true b (suc c) f) (rest g)
     by rest false f g = zero_is_one cc
 
@@ -102,15 +103,15 @@ filled_starts_with_feed [] vs e = absurd e
 filled_starts_with_feed (c ∷ t) vs e = (filled t vs, ap (λ (y : ℕ). filled (y ∷ t) vs) e)
 
 -- A value that an LF follows is found.
-value_found : (t v s : List ℕ) (vs : List (List ℕ)) → OneLine v → (x : List ℕ) × (s ≡ 10 ∷ x) → values_in t s ≡ found vs →
-    prepend (line_in (v ++ s) ∷ []) (values_in t (after_line (v ++ s))) ≡ found (v ∷ vs)
+value_found : (t v s : List ℕ) (vs : List (List ℕ)) → OneLine v → (x : List ℕ) × (s ≡ 10 ∷ x) → values_in t s ≡ Some vs →
+    prepend (line_in (v ++ s) ∷ []) (values_in t (after_line (v ++ s))) ≡ Some (v ∷ vs)
 value_found t v s vs p (x, e) f =
     let line : line_in (v ++ s) ≡ v = ap (λ (l : List ℕ). line_in (v ++ l)) e ∙ line_before_feed v x p in
     let rest : after_line (v ++ s) ≡ s = ap (λ (l : List ℕ). after_line (v ++ l)) e ∙ rest_from_feed v x p ∙ sym e in
     rw (line, rest, f)
 
 pub values_filled : (t : List ℕ) (vs : List (List ℕ)) → ValuesEndLines t → length vs ≡ placeholders_in t → OneLineEach vs →
-    values_in t (filled t vs) ≡ found vs
+    values_in t (filled t vs) ≡ Some vs
 unfolding values_in filled placeholders_in OneLineEach ValuesEndLines
 values_filled [] [] q l p = refl
 values_filled [] (v ∷ vs) q l p = zero_is_one cc
@@ -120,7 +121,7 @@ values_filled (zero ∷ t) (v ∷ vs) q l p =
     value_found t v (filled t vs) vs p.0 (filled_starts_with_feed t vs q.0) rest
 values_filled (suc c ∷ t) vs q l p = rw (eq-eqb (suc c) (suc c) refl) (values_filled t vs q l p)
 
-pub values_complete : (t s : List ℕ) (vs : List (List ℕ)) → ValuesEndLines t → IsFilled t s vs → values_in t s ≡ found vs
+pub values_complete : (t s : List ℕ) (vs : List (List ℕ)) → ValuesEndLines t → IsFilled t s vs → values_in t s ≡ Some vs
 values_complete t s vs q f = ap (values_in t) f.same ∙ values_filled t vs q f.as_many f.one_line
 
 -- ---- at most one list of values fills a template to given bytes
@@ -131,7 +132,7 @@ one_filling t s us vs q f g =
     let second = values_complete t s vs q g in
     cc
 
-pub no_filling : (t s : List ℕ) (vs : List (List ℕ)) → ValuesEndLines t → values_in t s ≡ no_match → IsFilled t s vs → ⊥
+pub no_filling : (t s : List ℕ) (vs : List (List ℕ)) → ValuesEndLines t → values_in t s ≡ None → IsFilled t s vs → ⊥
 no_filling t s vs q e f =
     let all = values_complete t s vs q f in
     zero_is_one cc

@@ -1,32 +1,22 @@
--- The tests of texts, for the functions of src/texts.rt: one more byte (`one_more_byte`), the length of a text (`out_of_bounds`,
+-- The tests of texts, for the functions of src/texts.rt: the length of a text (`out_of_bounds`,
 -- `in_bounds`), all tests of one text (`legal_if`), one more value (`one_more_text`), and the eight lines (`not_eight_lines`,
 -- `eight_lines`).
 use mathlib.Core.Path.{◌≡◌, refl, sym, ap, ◌∙◌}
 use mathlib.Core.Bool.{Bool, true, false, cond, not, ◌&&◌, ◌||◌, true≢false}
-use mathlib.Core.List.{List, [], ◌∷◌, ◌++◌}
-use Prim.Native.Nat.{ℕ, ◌+◌, ◌-◌, ◌≤◌, ◌<◌}
+use mathlib.Core.List.{List, []}
+use Prim.Native.Nat.{ℕ, ◌+◌, ◌-◌, ◌≤◌}
 use native.Mathlib.Numerals.{add-one}
 use borrow.Author.Tests.{le-leb, lt-leb, ltb-true, ltb-false}
-use lib.Dec.{eqb, leb, ltb}
-use lib.ListN.{length, get_or, take}
-use lib.Seq.{take-suc}
-use Rattle.orbit_message.specs.Templates.{found, no_match, placeholders_in}
+use lib.Dec.{eqb, ltb}
+use lib.ListN.{length, get_or}
+use Rattle.std.specs.Prelude.{Some, None}
+use Rattle.orbit_message.specs.Templates.{placeholders_in}
 use Rattle.orbit_message.specs.Texts.{every, is_printable, is_legal, lines_template, found_in, texts_in, are_texts}
 use Rattle.orbit_message.specs.Matches.{part, values_between, matched_values, IsMatch}
 use Rattle.orbit_message.specs.declared.matching.Match.{Match}
-use Rattle.orbit_message.proofs.EveryElement.{and_assoc, every_end}
+use Rattle.orbit_message.proofs.EveryElement.{every_end}
 
 -- ---- the bytes of a text
-
-pub one_more_byte : (s : List ℕ) (i : ℕ) → i < length s →
-    (every is_printable (take i s) && leb 0x20 (get_or s i 0)) && leb (get_or s i 0) 0x7E ≡ every is_printable (take (i + 1) s)
-unfolding is_printable
-one_more_byte s i h =
-    let c = get_or s i 0 in
-    let grown : take (i + 1) s ≡ take i s ++ (c ∷ []) = rw add-one (take-suc s i 0 h) in
-    sym (and_assoc (every is_printable (take i s)) (leb 0x20 c) (leb c 0x7E))
-    ∙ sym (every_end is_printable (take i s) c)
-    ∙ ap (every is_printable) (sym grown)
 
 -- A text that is empty or has more than 60 bytes is not legal.
 pub out_of_bounds : (s : List ℕ) → ltb (length s) 1 || ltb 60 (length s) ≡ true → false ≡ is_legal s
@@ -74,7 +64,7 @@ module _ (s : List ℕ) (m : Match) (is : IsMatch (lines_template 8) s m) where
   unfolding texts_in
   texts_found = ap found_in is.outcome ∙ by m.matches
     where
-      by : (b : Bool) → found_in (cond b (found (matched_values s m)) no_match) ≡ cond b (matched_values s m) []
+      by : (b : Bool) → found_in (cond b (Some (matched_values s m)) None) ≡ cond b (matched_values s m) []
       by true = refl
       by false = refl
 

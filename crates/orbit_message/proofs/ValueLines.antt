@@ -9,12 +9,13 @@ use native.Mathlib.Omega.{arith}
 use borrow.Author.Tests.{leb-true, eqb-true}
 use lib.Dec.{eqb, leb}
 use lib.ListN.{length, get_or, take, drop, length-append, length-map, length-take, length-drop}
-use lib.Seq.{take-length, length-take-le}
+use lib.Seq.{length-take-le}
 use Rattle.decimal.specs.declared.Decimal.{Decimal}
 use Rattle.decimal.specs.Texts.{text_of}
 use Rattle.decimal.proofs.TextBytes.{length_range}
 use Rattle.decimal.proofs.NoLineFeed.{no_line_feed}
-use Rattle.orbit_message.specs.Templates.{Values, found, no_match, values_in, filled, placeholders_in}
+use Rattle.std.specs.Prelude.{Some, None}
+use Rattle.orbit_message.specs.Templates.{Values, values_in, filled, placeholders_in}
 use Rattle.orbit_message.specs.Templates.{ValuesEndLines, OneLine, OneLineEach}
 use Rattle.orbit_message.specs.Texts.{every, is_printable, is_legal, lines_template, texts_in, are_texts, found_in}
 use Rattle.orbit_message.specs.Matches.{part, matched_values, IsMatch}
@@ -112,11 +113,11 @@ text_room d b n e f =
     let r = (length_range d).1 in
     (omega arith, omega arith)
 
-pub number_appended : (d : Decimal) (b old mid all : List ℕ) (n : ℕ) → take n b ≡ text_of d → mid ≡ old ++ part b 0 n →
+pub number_appended : (d : Decimal) (b old mid all : List ℕ) (n : ℕ) → take n b ≡ text_of d → mid ≡ old ++ take n b →
     all ≡ mid ++ (10 ∷ []) → all ≡ old ++ (text_of d ++ (10 ∷ []))
 number_appended d b old mid all n e f g =
     g
-    ∙ ap (λ (l : List ℕ). l ++ (10 ∷ [])) (f ∙ ap (λ (l : List ℕ). old ++ l) (from_start b n ∙ e))
+    ∙ ap (λ (l : List ℕ). l ++ (10 ∷ [])) (f ∙ ap (λ (l : List ℕ). old ++ l) e)
     ∙ append_assoc old (text_of d) (10 ∷ [])
 
 pub three_appended : (x y z old a b all : List ℕ) → a ≡ old ++ (x ++ (10 ∷ [])) → b ≡ a ++ (y ++ (10 ∷ [])) →
@@ -129,11 +130,11 @@ unfolding lines_of
 lines_append [] vs = refl
 lines_append (u ∷ us) vs = append_assoc u (10 ∷ lines_of us) (lines_of vs) ∙ ap (λ (l : List ℕ). u ++ (10 ∷ l)) (lines_append us vs)
 
-pub all_appended : (t : List ℕ) (us vs : List (List ℕ)) (a b all : List ℕ) → a ≡ part t 0 (length t) → b ≡ a ++ lines_of us →
+pub all_appended : (t : List ℕ) (us vs : List (List ℕ)) (a b all : List ℕ) → a ≡ t → b ≡ a ++ lines_of us →
     all ≡ b ++ lines_of vs → all ≡ t ++ lines_of (us ++ vs)
 all_appended t us vs a b all e f g =
     g
-    ∙ ap (λ (l : List ℕ). l ++ lines_of vs) (f ∙ ap (λ (l : List ℕ). l ++ lines_of us) (e ∙ from_start t (length t) ∙ take-length t))
+    ∙ ap (λ (l : List ℕ). l ++ lines_of vs) (f ∙ ap (λ (l : List ℕ). l ++ lines_of us) e)
     ∙ append_assoc t (lines_of us) (lines_of vs)
     ∙ ap (λ (l : List ℕ). t ++ l) (lines_append us vs)
 
@@ -157,7 +158,7 @@ placeholders_of_lines zero = refl
 placeholders_of_lines (suc n) = ap suc (placeholders_of_lines n)
 
 pub values_of_lines : (n : ℕ) (s : List ℕ) (vs : List (List ℕ)) → length vs ≡ n → OneLineEach vs → s ≡ lines_of vs →
-    values_in (lines_template n) s ≡ found vs
+    values_in (lines_template n) s ≡ Some vs
 values_of_lines n s vs e p f =
     values_complete (lines_template n) s vs (lines_end n)
     (record { as_many = e ∙ sym (placeholders_of_lines n); one_line = p; same = f ∙ sym (lines_template_filled n vs e) })
@@ -168,7 +169,7 @@ pub lines_found : (n : ℕ) (s : List ℕ) (m : Match) → IsMatch (lines_templa
     s ≡ lines_of vs → matched_values s m ≡ vs
 lines_found n s m is vs e p f = by m.matches (sym is.outcome ∙ values_of_lines n s vs e p f)
   where
-    by : (b : Bool) → cond b (found (matched_values s m)) no_match ≡ found vs → matched_values s m ≡ vs
+    by : (b : Bool) → cond b (Some (matched_values s m)) None ≡ Some vs → matched_values s m ≡ vs
     by true q = cc
     by false q = zero_is_one cc
 
@@ -179,10 +180,10 @@ texts_lined s e = by (values_in (lines_template 8) s) refl e
   where
     by : (r : Values) → values_in (lines_template 8) s ≡ r →
         eqb (length (found_in r)) 8 && every is_legal (found_in r) ≡ true → s ≡ lines_of (found_in r)
-    by (found vs) f g =
+    by (Some vs) f g =
         let eight = eqb-true (length vs) 8 (both (eqb (length vs) 8) (every is_legal vs) g).0 in
         (values_sound (lines_template 8) s vs f).same ∙ lines_template_filled 8 vs eight
-    by no_match f g = zero_is_one cc
+    by None f g = zero_is_one cc
 
 -- ---- fourteen lines
 

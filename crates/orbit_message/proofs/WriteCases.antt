@@ -1,7 +1,7 @@
 -- The cases of `write_of`, for `write`: each refusal when its condition is the first that holds (`b1`, `b5`, `b6`, `b7`), and the
 -- message otherwise (`message_put`). `entry_inside` shows that every entry of an answer lies in its bytes.
 use mathlib.Core.Path.{◌≡◌, refl, sym, ap, ◌∙◌}
-use mathlib.Core.Bool.{Bool, true, false, cond, not, ◌&&◌, ◌||◌, true≢false}
+use mathlib.Core.Bool.{Bool, true, false, not, ◌&&◌, ◌||◌, true≢false}
 use mathlib.Core.List.{List, ◌++◌, map}
 use Prim.Native.Nat.{ℕ, ◌-◌, ◌≤◌}
 use native.Mathlib.Omega.{arith}
@@ -17,9 +17,7 @@ use Rattle.outcomes.specs.Outcomes.{is_sized, is_between, is_refusal, all_name_a
 use Rattle.orbit_message.specs.Texts.{every, texts_in, are_texts}
 use Rattle.orbit_message.specs.Messages.{message_of}
 use Rattle.orbit_message.specs.Writing.{components, departure_velocity, refusal, put_of, write_of}
-use Rattle.orbit_message.specs.declared.states.State.{State}
-use Rattle.orbit_message.specs.declared.states.StateResult as state
-use Rattle.orbit_message.proofs.TemplateValues.{zero_is_one}
+use Rattle.orbit_message.specs.declared.refusals.Refusal.TheVariants.{NotAnAnswer, IllegalTexts, NoSuchEntry, OutOfRange}
 use Rattle.orbit_message.proofs.EveryElement.{both}
 
 -- ---- the tests of the code
@@ -32,17 +30,6 @@ outside low high n = by (ltb n low) (ltb high n) refl refl
     by true b e f = rw (lt-leb low n (ltb-true n low e))
     by false true e f = rw (le-leb low n (ltb-false n low e), lt-leb n high (ltb-true high n f))
     by false false e f = rw (le-leb low n (ltb-false n low e), le-leb n high (ltb-false high n f))
-
--- The result tells whether the test passed.
-pub state_refused : (b : Bool) (s : State) (r : state.StateResult) →
-    r ≡ cond b (state.TheVariants.Of s) state.TheVariants.Refused → r ≡ state.TheVariants.Refused → b ≡ false
-state_refused true s r e f = zero_is_one cc
-state_refused false s r e f = refl
-
-pub state_there : (b : Bool) (s x : State) (r : state.StateResult) →
-    r ≡ cond b (state.TheVariants.Of s) state.TheVariants.Refused → r ≡ state.TheVariants.Of x → (b ≡ true) × (x ≡ s)
-state_there true s x r e f = (refl, cc)
-state_there false s x r e f = zero_is_one cc
 
 -- ---- an answer
 
@@ -92,22 +79,22 @@ module _ (answer : List ℕ) (entry : ℕ) (r1 : Vector) (texts out : List ℕ) 
   abbrev pub numbers : List Float
   numbers = components r1 ++ components (departure_velocity answer entry)
 
-  pub b1 : has_no_answer answer ≡ true → refusal 1 out ≡ write_of answer entry r1 texts out
+  pub b1 : has_no_answer answer ≡ true → refusal NotAnAnswer out ≡ write_of answer entry r1 texts out
   unfolding write_of
   b1 e = rw e
 
   module _ (good : has_no_answer answer ≡ false) where
-    pub b5 : are_texts (texts_in texts) ≡ false → refusal 5 out ≡ write_of answer entry r1 texts out
+    pub b5 : are_texts (texts_in texts) ≡ false → refusal IllegalTexts out ≡ write_of answer entry r1 texts out
     unfolding write_of
     b5 e = rw (good, e)
 
     module _ (legal : are_texts (texts_in texts) ≡ true) where
-      pub b6 : is_between 1 (number_of answer) entry ≡ false → refusal 6 out ≡ write_of answer entry r1 texts out
+      pub b6 : is_between 1 (number_of answer) entry ≡ false → refusal NoSuchEntry out ≡ write_of answer entry r1 texts out
       unfolding write_of
       b6 e = rw (good, legal, e)
 
       module _ (there : is_between 1 (number_of answer) entry ≡ true) where
-        pub b7 : every is_in_range numbers ≡ false → refusal 7 out ≡ write_of answer entry r1 texts out
+        pub b7 : every is_in_range numbers ≡ false → refusal OutOfRange out ≡ write_of answer entry r1 texts out
         unfolding write_of
         b7 e = rw (good, legal, there, e)
 

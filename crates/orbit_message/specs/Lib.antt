@@ -2,6 +2,7 @@ pub mod Ascii
 pub mod Templates
 pub mod Texts
 pub mod Messages
+pub mod Refusals
 pub mod Reading
 pub mod Writing
 pub mod Matches

@@ -1,6 +1,7 @@
 -- What the functions of src/matching.rt compute. Definitions only; no public contract cites them.
 use Rattle.std.specs.Prelude.{ℕ, zero, suc, ◌+◌, ◌-◌, ◌≤◌, ◌<◌, ◌≡◌, cond, List, [], ◌∷◌, ◌++◌, length, get_or, take, drop}
-use Rattle.orbit_message.specs.Templates.{placeholders_in, Values, found, no_match, prepend, values_in}
+use Rattle.std.specs.Prelude.{Some, None}
+use Rattle.orbit_message.specs.Templates.{placeholders_in, Values, prepend, values_in}
 use Rattle.orbit_message.specs.declared.matching.Match.{Match}
 
 -- The bytes of s from the offset a up to the offset e.
@@ -22,7 +23,7 @@ matched_values s m = values_between s m.starts m.ends m.count
 
 -- What `values_in` returns for the whole template, if m is the match so far and t is the rest of the template.
 unfoldable pub progress : List ℕ → List ℕ → Match → Values
-progress t s m = cond m.matches (prepend (matched_values s m) (values_in t (drop m.at s))) no_match
+progress t s m = cond m.matches (prepend (matched_values s m) (values_in t (drop m.at s))) None
 
 -- Each value lies in s.
 abbrev pub Inside : List ℕ → Match → Type 0
@@ -40,4 +41,4 @@ pub record Advance (s : List ℕ) (b : ℕ) (old new : Match) : Type 0 where
 pub record IsMatch (t s : List ℕ) (m : Match) : Type 0 where
   pub count_is : m.count ≡ placeholders_in t
   pub inside : Inside s m
-  pub outcome : values_in t s ≡ cond m.matches (found (matched_values s m)) no_match
+  pub outcome : values_in t s ≡ cond m.matches (Some (matched_values s m)) None

@@ -1,12 +1,14 @@
 -- What the reader of a message returns (02, A10). Definitions only.
-use Rattle.std.specs.Prelude.{ℕ, Bool, cond, ◌&&◌, List, [], get_or, take, drop}
+use Rattle.std.specs.Prelude.{ℕ, Bool, cond, ◌&&◌, List, [], get_or, take, drop, Result, Ok, Err}
 use Rattle.decimal.specs.Texts.{decimal_in, is_decimal_text}
 use Rattle.orbit_message.specs.Messages.{template}
-use Rattle.orbit_message.specs.Templates.{Values, found, no_match, values_in}
+use Rattle.std.specs.Prelude.{Some, None}
+use Rattle.orbit_message.specs.Templates.{Values, values_in}
 use Rattle.orbit_message.specs.Texts.{every, is_legal, text_count}
 use Rattle.orbit_message.specs.declared.states.DecimalVector.{DecimalVector}
 use Rattle.orbit_message.specs.declared.states.State.{State}
-use Rattle.orbit_message.specs.declared.reader.ReadResult as result
+use Rattle.orbit_message.specs.declared.refusals.Refusal.{Refusal}
+use Rattle.orbit_message.specs.declared.refusals.Refusal.TheVariants.{NotAMessage}
 
 -- The vector whose components are shown by the first three values.
 unfoldable pub vector_in : List (List ℕ) → DecimalVector
@@ -21,10 +23,10 @@ unfoldable pub are_values : List (List ℕ) → Bool
 are_values vs = every is_legal (take text_count vs) && every is_decimal_text (drop text_count vs)
 
 -- The result for the values that were found. B10: the bytes are not a message.
-unfoldable pub result_for : Values → result.ReadResult
-result_for no_match = result.TheVariants.Refused 10
-result_for (found vs) = cond (are_values vs) (result.TheVariants.State (state_in (drop text_count vs))) (result.TheVariants.Refused 10)
+unfoldable pub result_for : Values → Result State Refusal
+result_for None = Err NotAMessage
+result_for (Some vs) = cond (are_values vs) (Ok (state_in (drop text_count vs))) (Err NotAMessage)
 
 -- What `read` returns for any bytes.
-unfoldable pub read_of : List ℕ → result.ReadResult
+unfoldable pub read_of : List ℕ → Result State Refusal
 read_of s = result_for (values_in template s)

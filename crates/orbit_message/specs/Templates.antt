@@ -1,7 +1,7 @@
 -- A template is bytes in which each 0 is a placeholder for a value and every other byte stands for itself. A value is everything up to the
 -- next LF (10). In our templates an LF follows each placeholder (`ValuesEndLines`, shown in proofs/MessageTemplate.antt and
 -- proofs/ValueLines.antt). Definitions only.
-use Rattle.std.specs.Prelude.{ℕ, zero, suc, ◌≡◌, cond, List, [], ◌∷◌, ◌++◌, eqb, length}
+use Rattle.std.specs.Prelude.{ℕ, zero, suc, ◌≡◌, cond, List, [], ◌∷◌, ◌++◌, eqb, length, Option, Some, None}
 
 -- ---- the values in bytes that follow a template
 
@@ -15,25 +15,24 @@ unfoldable pub after_line : List ℕ → List ℕ
 after_line [] = []
 after_line (c ∷ s) = cond (eqb c 10) (c ∷ s) (after_line s)
 
--- The values found in bytes, or `no_match` if the bytes do not follow the template.
-pub data Values : Type 0 where
-  found : List (List ℕ) → Values
-  no_match : Values
+-- The values found in bytes, or `None` if the bytes do not follow the template.
+abbrev pub Values : Type 0
+Values = Option (List (List ℕ))
 
 -- The given values, and then those found. If there is no match, there is still none.
 abbrev pub prepend : List (List ℕ) → Values → Values
-prepend us (found vs) = found (us ++ vs)
-prepend us no_match = no_match
+prepend us (Some vs) = Some (us ++ vs)
+prepend us None = None
 
 -- The values in bytes that follow the template. A byte of the template that is not 0 must be the next byte. A 0 takes the bytes up to the
 -- next LF, or to the end. No byte may be left.
 unfoldable pub values_in : List ℕ → List ℕ → Values
 unfolding line_in after_line
-values_in [] [] = found []
-values_in [] (c ∷ s) = no_match
+values_in [] [] = Some []
+values_in [] (c ∷ s) = None
 values_in (zero ∷ t) s = prepend (line_in s ∷ []) (values_in t (after_line s))
-values_in (suc c ∷ t) [] = no_match
-values_in (suc c ∷ t) (b ∷ s) = cond (eqb b (suc c)) (values_in t s) no_match
+values_in (suc c ∷ t) [] = None
+values_in (suc c ∷ t) (b ∷ s) = cond (eqb b (suc c)) (values_in t s) None
 
 -- ---- a template filled with values
 

@@ -1,6 +1,7 @@
 -- The eight texts of a message, and which texts are legal (02, A10). Definitions only.
 use Rattle.std.specs.Prelude.{ℕ, zero, suc, ◌-◌, Bool, true, not, ◌&&◌, List, [], ◌∷◌, eqb, leb, length, get_or}
-use Rattle.orbit_message.specs.Templates.{Values, found, no_match, values_in}
+use Rattle.std.specs.Prelude.{Some, None}
+use Rattle.orbit_message.specs.Templates.{Values, values_in}
 
 -- Whether every element passes the test.
 unfoldable pub every : {A : Type 0} → (A → Bool) → List A → Bool
@@ -27,8 +28,8 @@ lines_template (suc n) = 0 ∷ (10 ∷ lines_template n)
 
 -- The values found, or none.
 abbrev pub found_in : Values → List (List ℕ)
-found_in (found vs) = vs
-found_in no_match = []
+found_in (Some vs) = vs
+found_in None = []
 
 -- How many texts a message has.
 abbrev pub text_count : ℕ

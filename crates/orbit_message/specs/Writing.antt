@@ -1,5 +1,5 @@
 -- What the writer of a message returns and writes (02, A10). Definitions only.
-use Rattle.std.specs.Prelude.{ℕ, ◌-◌, cond, not, ◌||◌, List, [], ◌∷◌, ◌++◌, map, eqb, Float, length, drop}
+use Rattle.std.specs.Prelude.{ℕ, ◌-◌, cond, not, ◌||◌, List, [], ◌∷◌, ◌++◌, map, eqb, Float, length, drop, Result, Ok, Err}
 use Rattle.float64.specs.declared.Vector.{Vector}
 use Rattle.decimal.specs.Decimals.{is_in_range, decimal_of}
 use Rattle.little_endian.specs.Bytes.{has_room, written}
@@ -8,8 +8,9 @@ use Rattle.records.specs.Records.{entry_of}
 use Rattle.outcomes.specs.Outcomes.{is_outcome, is_between}
 use Rattle.orbit_message.specs.Messages.{message_of}
 use Rattle.orbit_message.specs.Texts.{every, texts_in, are_texts}
-use Rattle.orbit_message.specs.declared.writer.WriteResult.{WriteResult}
-use Rattle.orbit_message.specs.declared.writer.WriteResult.TheVariants.{Message, Refused}
+use Rattle.orbit_message.specs.declared.refusals.Refusal.{Refusal}
+use Rattle.orbit_message.specs.declared.refusals.Refusal.TheVariants.{NotAnAnswer, IllegalTexts, NoSuchEntry}
+use Rattle.orbit_message.specs.declared.refusals.Refusal.TheVariants.{OutOfRange, SmallBuffer}
 
 -- The components of a vector.
 abbrev pub components : Vector → List Float
@@ -19,31 +20,31 @@ components v = v.x ∷ v.y ∷ v.z ∷ []
 unfoldable pub departure_velocity : List ℕ → ℕ → Vector
 departure_velocity answer entry = (entry_of (drop (answer_size (entry - 1)) answer)).v1
 
--- The result of a call: the value that it returns, and the contents of the buffer after it.
-pub record Result : Type 0 where
-  pub result : WriteResult
+-- The result of a call: the length of the message or the refusal, and the contents of the buffer after the call.
+pub record WriteResult : Type 0 where
+  pub result : Result ℕ Refusal
   pub buffer : List ℕ
 
--- A refusal, given by its number. The buffer stays unchanged.
-abbrev pub refusal : ℕ → List ℕ → Result
-refusal number out = record { result = Refused number; buffer = out }
+-- A refusal. The buffer stays unchanged.
+abbrev pub refusal : Refusal → List ℕ → WriteResult
+refusal why out = record { result = Err why; buffer = out }
 
 -- The result for a message that is to be written. If the buffer has room for it, the message is at its start, and the bytes after it stay
 -- unchanged. B8: the buffer is shorter than the message, and stays unchanged.
-unfoldable pub put_of : List ℕ → List ℕ → Result
+unfoldable pub put_of : List ℕ → List ℕ → WriteResult
 put_of message out = record {
-  result = cond (has_room out message) (Message (length message)) (Refused 8);
+  result = cond (has_room out message) (Ok (length message)) (Err SmallBuffer);
   buffer = written out message;
 }
 
 -- The result of writing the departure state of an entry: the position r1 and the entry's velocity v1. The refusals are tested in this
 -- order. B1: the record passed as the answer is malformed or a refusal. B5: not eight legal texts. B6: the answer has no such entry. B7:
 -- a number of the state is not finite or has a size of 10 ^ 7 or more. B8: see `put_of`.
-unfoldable pub write_of : List ℕ → ℕ → Vector → List ℕ → List ℕ → Result
+unfoldable pub write_of : List ℕ → ℕ → Vector → List ℕ → List ℕ → WriteResult
 write_of answer entry r1 texts out =
     let numbers = components r1 ++ components (departure_velocity answer entry) in
-    cond (not (is_outcome answer) || eqb (kind_of answer) refusal_kind) (refusal 1 out)
-    (cond (not (are_texts (texts_in texts))) (refusal 5 out)
-    (cond (not (is_between 1 (number_of answer) entry)) (refusal 6 out)
-    (cond (not (every is_in_range numbers)) (refusal 7 out)
+    cond (not (is_outcome answer) || eqb (kind_of answer) refusal_kind) (refusal NotAnAnswer out)
+    (cond (not (are_texts (texts_in texts))) (refusal IllegalTexts out)
+    (cond (not (is_between 1 (number_of answer) entry)) (refusal NoSuchEntry out)
+    (cond (not (every is_in_range numbers)) (refusal OutOfRange out)
     (put_of (message_of (texts_in texts) (map decimal_of numbers)) out))))

@@ -1,7 +1,7 @@
 // Fills a template with values. The bytes are built in an array and returned by value.
 ghost use Rattle.std.specs.Prelude.{◌≡◌, [], ◌∷◌, ◌++◌, ◌+◌, ◌-◌, ◌*◌, ◌≤◌, ◌<◌, length};
 ghost use Rattle.orbit_message.specs.Templates.{filled, placeholders_in};
-ghost use Rattle.orbit_message.specs.Matches.{part, matched_values};
+ghost use Rattle.orbit_message.specs.Matches.{matched_values};
 ghost use Rattle.orbit_message.specs.Fillings.{Fits, filled_bytes, FillStep};
 
 use crate::matching::Match;
@@ -15,25 +15,19 @@ pub(crate) struct Filling {
     pub count: usize,
 }
 
-// Appends the bytes of s from the offset `from` up to the offset `to`, and adds 1 to `count`.
-pub(crate) fn append(old: Filling, s: &[u8], from: usize, to: usize) -> Filling
-    requires { (from ≤ to) × (to ≤ length s.now) × (old.length + (to - from) ≤ 1100) × (old.count < 14) }
-    ensures { (filled_bytes result ≡ filled_bytes old ++ part s.now from to)
-        × (result.length ≡ old.length + (to - from)) × (result.count ≡ old.count + 1) }
+// Appends the bytes of s, and adds 1 to `count`.
+pub(crate) fn append(old: Filling, s: &[u8]) -> Filling
+    requires { (old.length + length s.now ≤ 1100) × (old.count < 14) }
+    ensures { (filled_bytes result ≡ filled_bytes old ++ s.now)
+        × (result.length ≡ old.length + length s.now) × (result.count ≡ old.count + 1) }
 {
-    let n = old.length;
-    let count = old.count;
+    let end = old.length + s.len();
     let mut bytes = old.bytes;
-    let size = to - from;
-    let mut i = 0;
-    while i < size {
-        bytes[n + i] = s[from + i];
-        i += 1;
-    }
+    bytes[old.length..end].copy_from_slice(s);
     Filling {
         bytes,
-        length: n + size,
-        count: count + 1,
+        length: end,
+        count: old.count + 1,
     }
 }
 
@@ -65,7 +59,7 @@ fn fill_step(old: Filling, byte: u8, s: &[u8], values: Match) -> Filling
     if byte == 0 {
         let from = starts[k];
         let to = ends[k];
-        append(old, s, from, to)
+        append(old, &s[from..to])
     } else {
         push(old, byte)
     }
@@ -82,10 +76,8 @@ pub(crate) fn fill(template: &[u8], s: &[u8], values: Match) -> Filling
         length: 0,
         count: 0,
     };
-    let mut i = 0;
-    while i < template.len() {
-        done = fill_step(done, template[i], s, values);
-        i += 1;
+    for &byte in template {
+        done = fill_step(done, byte, s, values);
     }
     done
 }

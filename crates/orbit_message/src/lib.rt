@@ -6,10 +6,12 @@ mod filling;
 mod matching;
 mod messages;
 mod reader;
+mod refusals;
 mod states;
 mod texts;
 mod writer;
 
-pub use reader::{ReadResult, read};
+pub use reader::read;
+pub use refusals::Refusal;
 pub use states::{DecimalVector, State};
-pub use writer::{WriteResult, write};
+pub use writer::write;

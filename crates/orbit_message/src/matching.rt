@@ -20,14 +20,10 @@ fn line_end(s: &[u8], from: usize) -> usize
     requires { from ≤ length s.now }
     ensures { (from ≤ result) × (result ≤ length s.now) × (drop result s.now ≡ after_line (drop from s.now)) }
 {
-    let mut i = from;
-    while i < s.len() {
-        if s[i] == b'\n' {
-            return i;
-        }
-        i += 1;
+    match s[from..].iter().position(|&b| b == b'\n') {
+        Some(k) => from + k,
+        None => s.len(),
     }
-    i
 }
 
 // Returns the match after one more byte of the template.
@@ -82,10 +78,8 @@ pub(crate) fn find_values(template: &[u8], s: &[u8]) -> Match
         starts: [0; 14],
         ends: [0; 14],
     };
-    let mut i = 0;
-    while i < template.len() {
-        done = advance(s, template[i], done);
-        i += 1;
+    for &byte in template {
+        done = advance(s, byte, done);
     }
     let starts = done.starts;
     let ends = done.ends;

@@ -39,9 +39,7 @@ fn append_number(old: Filling, d: Decimal) -> Filling
         × (result.length ≤ old.length + 19) × (result.count ≡ old.count + 1) }
 {
     let text = decimal::text_of(d);
-    let bytes = text.bytes;
-    let n = text.length;
-    push(append(old, &bytes, 0, n), b'\n')
+    push(append(old, &text.bytes[..text.length]), b'\n')
 }
 
 // Appends a line for each component.
@@ -69,7 +67,7 @@ fn value_lines(texts: &[u8], state: State) -> Filling
     };
     let position = state.position;
     let velocity = state.velocity;
-    let all_texts = append(empty, texts, 0, texts.len());
+    let all_texts = append(empty, texts);
     append_vector(append_vector(all_texts, position), velocity)
 }
 

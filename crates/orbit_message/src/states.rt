@@ -5,11 +5,11 @@ ghost use Rattle.orbit_message.specs.States.{vector_shown, vector_of, state_of};
 ghost use Rattle.decimal.specs.Texts.{parse_of};
 
 use crate::matching::Match;
-use decimal::{Decimal, DecimalResult};
+use decimal::Decimal;
 use float64::Vector;
 
 // A vector whose components are decimals.
-#[derive(Clone, Copy)]
+#[derive(Clone, Copy, Debug, PartialEq, Eq)]
 pub struct DecimalVector {
     pub x: Decimal,
     pub y: Decimal,
@@ -17,28 +17,14 @@ pub struct DecimalVector {
 }
 
 // The position and the velocity of a message.
-#[derive(Clone, Copy)]
+#[derive(Clone, Copy, Debug, PartialEq, Eq)]
 pub struct State {
     pub position: DecimalVector,
     pub velocity: DecimalVector,
 }
 
-// A vector, or a refusal because one of its components is refused.
-#[derive(Clone, Copy)]
-pub(crate) enum VectorResult {
-    Of(DecimalVector),
-    Refused,
-}
-
-// A state, or a refusal because one of its numbers is refused.
-#[derive(Clone, Copy)]
-pub(crate) enum StateResult {
-    Of(State),
-    Refused,
-}
-
-// Returns the decimal that the value k shows.
-fn decimal_at(s: &[u8], found: Match, k: usize) -> DecimalResult
+// Returns the decimal that the value k shows, or `None` if it is not the text of one.
+fn decimal_at(s: &[u8], found: Match, k: usize) -> Option<Decimal>
     requires { Inside s.now found × (found.count ≡ 14) × (k < 14) }
     ensures { result ≡ parse_of (matched_value s.now found k) }
 {
@@ -49,49 +35,36 @@ fn decimal_at(s: &[u8], found: Match, k: usize) -> DecimalResult
     decimal::parse(&s[from..to])
 }
 
-// Returns the vector that three values show, from the value k on.
-pub(crate) fn vector_at(s: &[u8], found: Match, k: usize) -> VectorResult
+// Returns the vector that three values show, from the value k on, or `None` if one of them is not the text of a decimal.
+pub(crate) fn vector_at(s: &[u8], found: Match, k: usize) -> Option<DecimalVector>
     requires { Inside s.now found × (found.count ≡ 14) × (k < 12) }
     ensures { result ≡ vector_shown (matched_value s.now found k
         ∷ (matched_value s.now found (k + 1) ∷ (matched_value s.now found (k + 2) ∷ []))) }
 {
-    let DecimalResult::Number(x) = decimal_at(s, found, k) else {
-        return VectorResult::Refused;
-    };
-    let DecimalResult::Number(y) = decimal_at(s, found, k + 1) else {
-        return VectorResult::Refused;
-    };
-    let DecimalResult::Number(z) = decimal_at(s, found, k + 2) else {
-        return VectorResult::Refused;
-    };
-    VectorResult::Of(DecimalVector { x, y, z })
+    Some(DecimalVector {
+        x: decimal_at(s, found, k)?,
+        y: decimal_at(s, found, k + 1)?,
+        z: decimal_at(s, found, k + 2)?,
+    })
 }
 
-// Rounds each component of a vector.
-fn vector_of(v: Vector) -> VectorResult
+// Rounds each component of a vector. Returns `None` if one of them is out of range.
+fn vector_of(v: Vector) -> Option<DecimalVector>
     ensures { result ≡ vector_of v }
 {
-    let DecimalResult::Number(x) = decimal::round(v.x) else {
-        return VectorResult::Refused;
-    };
-    let DecimalResult::Number(y) = decimal::round(v.y) else {
-        return VectorResult::Refused;
-    };
-    let DecimalResult::Number(z) = decimal::round(v.z) else {
-        return VectorResult::Refused;
-    };
-    VectorResult::Of(DecimalVector { x, y, z })
+    Some(DecimalVector {
+        x: decimal::round(v.x)?,
+        y: decimal::round(v.y)?,
+        z: decimal::round(v.z)?,
+    })
 }
 
-// Rounds each number of a position and a velocity.
-pub(crate) fn state_of(r: Vector, v: Vector) -> StateResult
+// Rounds each number of a position and a velocity. Returns `None` if one of them is out of range.
+pub(crate) fn state_of(r: Vector, v: Vector) -> Option<State>
     ensures { result ≡ state_of r v }
 {
-    let VectorResult::Of(position) = vector_of(r) else {
-        return StateResult::Refused;
-    };
-    let VectorResult::Of(velocity) = vector_of(v) else {
-        return StateResult::Refused;
-    };
-    StateResult::Of(State { position, velocity })
+    Some(State {
+        position: vector_of(r)?,
+        velocity: vector_of(v)?,
+    })
 }

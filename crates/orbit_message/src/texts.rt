@@ -17,13 +17,7 @@ const LAST_PRINTABLE: u8 = 0x7E;
 fn is_printable(s: &[u8]) -> bool
     ensures { result ≡ every is_printable s.now }
 {
-    let mut all = true;
-    let mut i = 0;
-    while i < s.len() {
-        all = all & (BLANK <= s[i]) & (s[i] <= LAST_PRINTABLE);
-        i += 1;
-    }
-    all
+    s.iter().all(|&b| (BLANK <= b) & (b <= LAST_PRINTABLE))
 }
 
 // Reports whether the bytes are a legal text.
@@ -45,12 +39,10 @@ pub(crate) fn are_legal(s: &[u8], found: Match) -> bool
     let starts = found.starts;
     let ends = found.ends;
     let mut all = true;
-    let mut k = 0;
-    while k < 8 {
+    for k in 0..8 {
         let from = starts[k];
         let to = ends[k];
-        all = all & is_legal(&s[from..to]);
-        k += 1;
+        all &= is_legal(&s[from..to]);
     }
     all
 }

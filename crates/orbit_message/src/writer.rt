@@ -6,18 +6,11 @@ ghost use Rattle.orbit_message.specs.Writing.{departure_velocity, put_of, write_
 
 use crate::filling::Filling;
 use crate::messages::message_of;
-use crate::states::{StateResult, state_of};
+use crate::refusals::Refusal;
+use crate::states::state_of;
 use crate::texts::are_texts;
 use float64::Vector;
 use records::{REFUSAL_KIND, answer_size, kind_of, number_of, read_entry};
-
-// The result of writing a message: its length, or the number of the refusal, 1, 5, 6, 7 or 8 for B1, B5, B6, B7 or B8. A refusal
-// leaves the buffer unchanged.
-#[derive(Clone, Copy)]
-pub enum WriteResult {
-    Message(usize),
-    Refused(u8),
-}
 
 // Writes the message of an entry, counted from 1, of an answer to the start of `out`. The bytes after it stay unchanged. The message has
 // the position r1 and the entry's velocity v1. `texts` is eight lines that end with an LF each, in the order CREATION_DATE, ORIGINATOR,
@@ -25,22 +18,26 @@ pub enum WriteResult {
 // last. The refusals are, in this order: B1 if the record passed as the answer is malformed or a refusal, B5 if `texts` is not eight
 // legal texts, B6 if the answer has no such entry, B7 if a number of the state is not finite or its size is 10^7 or more, and B8 if the
 // buffer is shorter than the message.
-pub fn write(answer: &[u8], entry: usize, r1: Vector, texts: &[u8], out: &mut [u8]) -> WriteResult
+pub fn write(
+    answer: &[u8],
+    entry: usize,
+    r1: Vector,
+    texts: &[u8],
+    out: &mut [u8],
+) -> Result<usize, Refusal>
     ensures result { result ≡ (write_of answer.now entry r1 texts.now out.old).result }
     ensures buffer { out.new ≡ (write_of answer.now entry r1 texts.now out.old).buffer }
 {
     if !outcomes::is_outcome(answer) | (kind_of(answer) == REFUSAL_KIND) {
-        return WriteResult::Refused(1);
+        return Err(Refusal::NotAnAnswer);
     }
     if !are_texts(texts) {
-        return WriteResult::Refused(5);
+        return Err(Refusal::IllegalTexts);
     }
     if (entry < 1) | ((number_of(answer) as usize) < entry) {
-        return WriteResult::Refused(6);
+        return Err(Refusal::NoSuchEntry);
     }
-    let StateResult::Of(state) = state_of(r1, departure_velocity(answer, entry)) else {
-        return WriteResult::Refused(7);
-    };
+    let state = state_of(r1, departure_velocity(answer, entry)).ok_or(Refusal::OutOfRange)?;
     put(out, message_of(texts, state))
 }
 
@@ -54,21 +51,16 @@ fn departure_velocity(answer: &[u8], entry: usize) -> Vector
     e.v1
 }
 
-// Writes a message to the start of the buffer, or refuses with B8 if the buffer is shorter.
-fn put(out: &mut [u8], message: Filling) -> WriteResult
+// Writes a message to the start of the buffer, or refuses with `SmallBuffer` if the buffer is shorter.
+fn put(out: &mut [u8], message: Filling) -> Result<usize, Refusal>
     requires { message.length ≤ 1100 }
     ensures result { result ≡ (put_of (filled_bytes message) out.old).result }
     ensures buffer { out.new ≡ (put_of (filled_bytes message) out.old).buffer }
 {
-    let bytes = message.bytes;
     let n = message.length;
     if out.len() < n {
-        return WriteResult::Refused(8);
+        return Err(Refusal::SmallBuffer);
     }
-    let mut i = 0;
-    while i < n {
-        out[i] = bytes[i];
-        i += 1;
-    }
-    WriteResult::Message(n)
+    out[..n].copy_from_slice(&message.bytes[..n]);
+    Ok(n)
 }

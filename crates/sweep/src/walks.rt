@@ -8,7 +8,7 @@ use hypergeometric::Reason;
 use stations::{Side, station_j};
 
 // A void station, with the reason why it is void. Its place is k = j * 2^20.
-#[derive(Clone, Copy)]
+#[derive(Clone, Copy, Debug, PartialEq, Eq)]
 pub struct VoidStation {
     pub j: i32,
     pub reason: Reason,

@@ -1,69 +1,30 @@
--- `digit_count` meets its contract: each result is a case of `digit_count`. The tests that failed are the cases that it passes over.
-use borrow.Author.Rules.{rules}
+-- `digit_count` meets its contract. The loop's invariant: the digits that are needed are those that are needed from `count` on.
+use mathlib.Core.Path.{◌≡◌, refl, sym, ap, ◌∙◌}
+use Prim.Native.Nat.{ℕ, ◌-◌}
 use native.Mathlib.Omega.{arith}
-use borrow.Author.Tests.{lt-ltb, le-ltb}
-use Rattle.decimal.specs.Texts.{digit_count, digit_count_from}
+use Rattle.decimal.specs.Texts.{digit_count_from, digit_count}
+use Rattle.decimal.proofs.Digits.{enough, more_needed}
 use Rattle.decimal.proofs.texts.digit_count.Goals as goal
 
-pub returns-then-n-lt10 : goal.returns-then-n-lt10
-unfolding digit_count digit_count_from
-returns-then-n-lt10 c =
-    let n = c.args.n in
-    (rw (lt-ltb n 10 (omega arith)), search rules, search rules)
+pub loop-count-init : goal.loop-count-init
+unfolding digit_count
+loop-count-init c = (omega arith, omega arith, refl)
 
-pub returns-then-n-lt100 : goal.returns-then-n-lt100
-unfolding digit_count digit_count_from
-returns-then-n-lt100 c =
-    let n = c.args.n in
-    let past1 = le-ltb n 10 (omega arith) in
-    (rw (past1, lt-ltb n 100 (omega arith)), search rules, search rules)
+pub returns-then-n-pow : goal.returns-then-n-pow
+returns-then-n-pow c =
+    let count = c.loop-count.count in
+    let needed = enough count c.args.n (omega arith) (rw c.pow.ensures at c.if-n-pow.true) in
+    (sym (c.loop-count.invariant.2 ∙ needed), omega arith, omega arith)
 
-pub returns-then-n-lt1000 : goal.returns-then-n-lt1000
-unfolding digit_count digit_count_from
-returns-then-n-lt1000 c =
-    let n = c.args.n in
-    let past1 = le-ltb n 10 (omega arith) in
-    let past2 = le-ltb n 100 (omega arith) in
-    (rw (past1, past2, lt-ltb n 1000 (omega arith)), search rules, search rules)
+pub loop-count-preserved : goal.loop-count-preserved
+loop-count-preserved c =
+    let count = c.loop-count.count in
+    let more = more_needed count c.args.n (omega arith) (rw c.pow.ensures at c.if-n-pow.false) in
+    (omega arith, omega arith, c.loop-count.invariant.2 ∙ more)
 
-pub returns-then-n-lt10000 : goal.returns-then-n-lt10000
-unfolding digit_count digit_count_from
-returns-then-n-lt10000 c =
-    let n = c.args.n in
-    let past1 = le-ltb n 10 (omega arith) in
-    let past2 = le-ltb n 100 (omega arith) in
-    let past3 = le-ltb n 1000 (omega arith) in
-    (rw (past1, past2, past3, lt-ltb n 10000 (omega arith)), search rules, search rules)
-
-pub returns-then-n-lt100000 : goal.returns-then-n-lt100000
-unfolding digit_count digit_count_from
-returns-then-n-lt100000 c =
-    let n = c.args.n in
-    let past1 = le-ltb n 10 (omega arith) in
-    let past2 = le-ltb n 100 (omega arith) in
-    let past3 = le-ltb n 1000 (omega arith) in
-    let past4 = le-ltb n 10000 (omega arith) in
-    (rw (past1, past2, past3, past4, lt-ltb n 100000 (omega arith)), search rules, search rules)
-
-pub returns-then-n-lt1000000 : goal.returns-then-n-lt1000000
-unfolding digit_count digit_count_from
-returns-then-n-lt1000000 c =
-    let n = c.args.n in
-    let past1 = le-ltb n 10 (omega arith) in
-    let past2 = le-ltb n 100 (omega arith) in
-    let past3 = le-ltb n 1000 (omega arith) in
-    let past4 = le-ltb n 10000 (omega arith) in
-    let past5 = le-ltb n 100000 (omega arith) in
-    (rw (past1, past2, past3, past4, past5, lt-ltb n 1000000 (omega arith)), search rules, search rules)
-
-pub returns-else-n-lt1000000 : goal.returns-else-n-lt1000000
-unfolding digit_count digit_count_from
-returns-else-n-lt1000000 c =
-    let n = c.args.n in
-    let past1 = le-ltb n 10 (omega arith) in
-    let past2 = le-ltb n 100 (omega arith) in
-    let past3 = le-ltb n 1000 (omega arith) in
-    let past4 = le-ltb n 10000 (omega arith) in
-    let past5 = le-ltb n 100000 (omega arith) in
-    let past6 = le-ltb n 1000000 (omega arith) in
-    (rw (past1, past2, past3, past4, past5, past6), search rules, search rules)
+pub returns : goal.returns
+unfolding digit_count_from
+returns c =
+    let seven : c.loop-count.count ≡ 7 = omega arith in
+    let needed = c.loop-count.invariant.2 ∙ ap (λ (p : ℕ). digit_count_from (7 - p) p c.args.n) seven in
+    (sym needed, omega arith, omega arith)

@@ -6,4 +6,4 @@ use Rattle.decimal.proofs.texts.text_length.Goals as goal
 pub returns : goal.returns
 returns c =
     let d = c.args.d in
-    (length_is d 0 _ _ c.sign_length.ensures.0 c.digit_count.ensures.0, search rules)
+    (length_is d 0 _ _ c.from.ensures c.digit_count.ensures.0, search rules)

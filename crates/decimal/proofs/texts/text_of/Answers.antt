@@ -1,28 +1,15 @@
--- `texts::text_of` meets its contract. The loop's invariant: the bytes are the first i bytes of the text and zeros. The measure is the
--- number of bytes that are left.
+-- `texts::text_of` meets its contract: the closure returns the byte of the text at each index.
 use native.Mathlib.Omega.{arith}
-use mathlib.Core.Path.{refl, ap, ◌∙◌}
-use mathlib.Core.List.{List}
-use Prim.Native.Nat.{ℕ}
-use lib.ListN.{set, length-set}
+use borrow.Author.Rules.{rules}
+use lib.ListN.{get_or}
 use Rattle.decimal.specs.Texts.{text_of}
-use Rattle.decimal.proofs.HeldTexts.{stored, all_stored}
+use Rattle.decimal.proofs.HeldTexts.{calls_give, all_bytes}
 use Rattle.decimal.proofs.texts.text_of.Goals as goal
-
-pub loop-i-init : goal.loop-i-init
-loop-i-init c = (omega arith, refl, refl)
-
-pub loop-i-preserved : goal.loop-i-preserved
-loop-i-preserved c =
-    let loop = c.loop-i in
-    let size = c.text_length-n in
-    let text = text_of c.args.d in
-    let byte = c.text_byte in
-    let next = stored text loop.i byte.result (omega arith) (omega arith) byte.ensures in
-    (omega arith, simp length-set loop.invariant.1, ap (λ (l : List ℕ). set l loop.i byte.result) loop.invariant.2 ∙ next)
 
 pub returns : goal.returns
 returns c =
-    let size = c.text_length-n in
     let text = text_of c.args.d in
-    (c.loop-i.invariant.2 ∙ all_stored text c.loop-i.i (omega arith), size.ensures.0)
+    let size = c.text_length.ensures in
+    let items = c.from_fn.ensures.items in
+    let each = calls_give _ _ (λ i. get_or text i 0) (λ i y q k. search rules) c.from_fn.result 18 items in
+    (all_bytes text c.from_fn.result items.long (omega arith) each, size.0)

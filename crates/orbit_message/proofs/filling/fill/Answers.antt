@@ -6,30 +6,30 @@ use Rattle.orbit_message.specs.Templates.{placeholders_in}
 use Rattle.orbit_message.proofs.FillSteps.{next_byte, filled_next, filled_at_end}
 use Rattle.orbit_message.proofs.filling.fill.Goals as goal
 
-pub loop-i-init : goal.loop-i-init
-loop-i-init c = (omega arith, zero-add (placeholders_in c.args.template.now), omega (arith, c.requires.2), refl)
+pub loop-byte-init : goal.loop-byte-init
+loop-byte-init c = (omega arith, zero-add (placeholders_in c.args.template.now), omega (arith, c.requires.2), refl)
 
 pub fill_step-done-requires : goal.fill_step-done-requires
 fill_step-done-requires c =
-    let l = c.loop-i in
-    let test = c.loop-i-test.true in
-    let placeholders = (next_byte c.args.template.now l.i test).placeholders in
+    let l = c.loop-byte in
+    let test = c.loop-byte-test.true in
+    let placeholders = (next_byte c.args.template.now l.byte-index test).placeholders in
     (c.requires.0, omega (arith, placeholders, l.invariant.1, c.requires.1), omega (arith, placeholders, l.invariant.2, test))
 
-pub loop-i-preserved : goal.loop-i-preserved
-loop-i-preserved c =
-    let l = c.loop-i in
+pub loop-byte-preserved : goal.loop-byte-preserved
+loop-byte-preserved c =
+    let l = c.loop-byte in
     let a = c.args in
     let t = a.template.now in
-    let test = c.loop-i-test.true in
-    let placeholders = (next_byte t l.i test).placeholders in
+    let test = c.loop-byte-test.true in
+    let placeholders = (next_byte t l.byte-index test).placeholders in
     let e = c.fill_step-done.ensures in
-    let same = filled_next t a.s.now a.values l.i l.done c.fill_step-done.result test e l.invariant.3 in
+    let same = filled_next t a.s.now a.values l.byte-index l.done c.fill_step-done.result test e l.invariant.3 in
     (omega arith, omega (arith, placeholders, l.invariant.1, e.counted), omega (arith, placeholders, l.invariant.2, e.bounded, test), same)
 
 pub returns : goal.returns
 returns c =
-    let l = c.loop-i in
+    let l = c.loop-byte in
     let a = c.args in
-    let whole = filled_at_end a.template.now a.s.now a.values l.i l.done c.loop-i-test.false l.invariant.3 in
+    let whole = filled_at_end a.template.now a.s.now a.values l.byte-index l.done c.loop-byte-test.false l.invariant.3 in
     (whole, omega (arith, l.invariant.2))

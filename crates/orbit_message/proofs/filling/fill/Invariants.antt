@@ -1,6 +1,5 @@
 -- The loop of `fill`. The invariant says that the bytes written, followed by the rest of the template filled with the values
--- left, are the whole template filled with all values. It also says that the rest fits into the array. The measure is the number of bytes
--- of the template that are left.
+-- left, are the whole template filled with all values. It also says that the rest fits into the array.
 use Prim.Native.Nat.{◌+◌, ◌-◌, ◌*◌, ◌≤◌}
 use mathlib.Core.Path.{◌≡◌}
 use mathlib.Core.List.{◌++◌}
@@ -10,14 +9,11 @@ use Rattle.orbit_message.specs.Matches.{matched_values}
 use Rattle.orbit_message.specs.Fillings.{filled_bytes}
 use Rattle.orbit_message.proofs.filling.fill.Given as goal
 
-abbrev pub invariant-loop-i : goal.invariant-loop-i
-invariant-loop-i l =
-    let rest = drop l.i l.template in
+abbrev pub invariant-loop-byte : goal.invariant-loop-byte
+invariant-loop-byte l =
+    let rest = drop l.byte-index l.template in
     let vs = matched_values l.s l.values in
-    (l.i ≤ length l.template)
+    (l.byte-index ≤ length l.template)
     × (l.done.count + placeholders_in rest ≡ placeholders_in l.template)
-    × (l.done.length + (length l.template - l.i) + 60 * placeholders_in rest ≤ 1100)
+    × (l.done.length + (length l.template - l.byte-index) + 60 * placeholders_in rest ≤ 1100)
     × (filled_bytes l.done ++ filled rest (drop l.done.count vs) ≡ filled l.template vs)
-
-abbrev pub decreases-loop-i : goal.decreases-loop-i
-decreases-loop-i l = length l.template - l.i

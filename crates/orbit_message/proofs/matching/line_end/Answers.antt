@@ -1,27 +1,42 @@
--- `line_end` meets its contract. The loop's invariant says that the bytes after the line are the same from the offset i as from the offset
--- `from`. The measure is the number of bytes left.
+-- `line_end` meets its contract: the line ends at the first LF, or at the end of the bytes.
 use native.Mathlib.Omega.{arith}
-use mathlib.Core.Path.{refl, ◌∙◌}
-use Rattle.orbit_message.proofs.LineEnds.{rest_after_byte, rest_at_feed, rest_at_end}
+use mathlib.Core.Path.{◌≡◌, sym, ◌∙◌}
+use mathlib.Core.List.{[]}
+use Prim.Native.Nat.{◌-◌}
+use borrow.Author.Rules.{rules}
+use lib.ListN.{length, drop, length-drop, drop_of_length-le}
+use lib.Seq.{drop-drop, take_all}
+use Rattle.std.proofs.Common.{tests}
+use Rattle.std.proofs.lemmas.Iterator.{YieldsList-from_slice}
+use Rattle.std.proofs.lemmas.Iterator.Search.{position_from_yields_List}
+use Rattle.std.specs.List.{position}
+use Rattle.orbit_message.proofs.LineEnds.{is_feed, feed_found, no_feed}
 use Rattle.orbit_message.proofs.matching.line_end.Goals as goal
+use Rattle.orbit_message.proofs.matching.line_end.Goals.{After-position}
 
-pub loop-i-init : goal.loop-i-init
-loop-i-init c = (omega arith, omega arith, refl)
-
-pub returns-then-s-i-eq10 : goal.returns-then-s-i-eq10
-returns-then-s-i-eq10 c =
-    let l = c.loop-i in
+-- The call gives the position of the first LF.
+found : (c : After-position) → c.position.result ≡ position is_feed (drop c.args.from c.args.s.now)
+found c =
     let s = c.args.s.now in
-    (l.invariant.0, l.invariant.1, rest_at_feed s l.i c.loop-i-test.true c.if-s-i-eq10.true ∙ l.invariant.2)
+    let from = drop c.args.from s in
+    let size = length-drop c.args.from s in
+    let all = c.iter.ensures.rest ∙ take_all (length s - c.args.from) from (omega arith) in
+    position_from_yields_List is_feed _ _ c.position.result c.position.ensures.ran
+    (YieldsList-from_slice from all) (λ x b q k. search (rules, tests))
 
-pub loop-i-preserved : goal.loop-i-preserved
-loop-i-preserved c =
-    let l = c.loop-i in
+pub returns-in-Some : goal.returns-in-Some
+returns-in-Some c =
     let s = c.args.s.now in
-    (omega arith, omega arith, rest_after_byte s l.i c.loop-i-test.true c.if-s-i-eq10.false ∙ l.invariant.2)
+    let from = c.args.from in
+    let k = c.in-Some.k in
+    let here = feed_found (drop from s) c.position.result k (found (goal.at.returns-in-Some c).After-position) c.in-Some.is in
+    let size = length-drop from s in
+    (omega arith, omega (arith, here.0), sym (drop-drop k from s) ∙ here.1)
 
-pub returns : goal.returns
-returns c =
-    let l = c.loop-i in
+pub returns-in-None : goal.returns-in-None
+returns-in-None c =
     let s = c.args.s.now in
-    (l.invariant.0, l.invariant.1, rest_at_end s l.i c.loop-i-test.false ∙ l.invariant.2)
+    let from = drop c.args.from s in
+    let none = no_feed from c.position.result (found (goal.at.returns-in-None c).After-position) c.in-None.is in
+    let end : drop (length s) s ≡ [] = drop_of_length-le s (omega arith) in
+    (c.requires, omega arith, end ∙ none)

@@ -1,13 +1,16 @@
 -- `read` meets its contract: each return is a case of proofs/ReadCases.antt.
-use mathlib.Core.Path.{sym, ◌∙◌}
+use mathlib.Core.Path.{◌≡◌, sym, ◌∙◌}
 use native.Mathlib.Omega.{arith}
 use borrow.Author.Rules.{rules}
 use borrow.Author.Tests.{not-true, not-false}
 use lib.Dec.{lit≤}
+use Rattle.std.specs.Prelude.{Some, None, Err}
+use Rattle.std.proofs.lemmas.Result.{err_from_is_err_and}
 use Rattle.orbit_message.specs.Ascii.{ascii}
 use Rattle.orbit_message.specs.Templates.{placeholders_in}
 use Rattle.orbit_message.specs.Messages.{keys, version, line, lines, template}
 use Rattle.orbit_message.specs.Matches.{IsMatch}
+use Rattle.orbit_message.specs.declared.refusals.Refusal.TheVariants.{NotAMessage}
 use Rattle.orbit_message.proofs.MessageTemplate.{fourteen_placeholders}
 use Rattle.orbit_message.proofs.ReadCases.{not_template, not_legal, not_position, not_velocity, is_message}
 use Rattle.orbit_message.proofs.reader.read.Goals as goal
@@ -45,26 +48,32 @@ vector_at-requires c =
     let is = is_match (goal.at.vector_at-requires c).After-find_values-found in
     (is.inside, is.count_is ∙ fourteen_placeholders, search rules)
 
-pub returns-in_default : goal.returns-in_default
-returns-in_default c =
-    let is = is_match (goal.at.returns-in_default c).After-find_values-found in
+pub returns-in_err-position : goal.returns-in_err-position
+returns-in_err-position c =
+    let is = is_match (goal.at.returns-in_err-position c).After-find_values-found in
     let found = c.find_values-found.result in
     let follows = not-false found.matches c.if-not-found.false in
     let p = c.vector_at in
-    not_position c.args.s.now found is follows p.result p.ensures c.in_default.is
+    let none : p.result ≡ None = grind arith in
+    let left = err_from_is_err_and c.from_residual.result c.from_residual.ensures.1 in
+    let same : c.from_residual.result ≡ Err NotAMessage = grind arith in
+    same ∙ not_position c.args.s.now found is follows p.result p.ensures none
 
 pub vector_at-requires-2 : goal.vector_at-requires-2
 vector_at-requires-2 c =
     let is = is_match (goal.at.vector_at-requires-2 c).After-find_values-found in
     (is.inside, is.count_is ∙ fourteen_placeholders, search rules)
 
-pub returns-in_default-vector_at : goal.returns-in_default-vector_at
-returns-in_default-vector_at c =
-    let is = is_match (goal.at.returns-in_default-vector_at c).After-find_values-found in
+pub returns-in_err-velocity : goal.returns-in_err-velocity
+returns-in_err-velocity c =
+    let is = is_match (goal.at.returns-in_err-velocity c).After-find_values-found in
     let found = c.find_values-found.result in
     let follows = not-false found.matches c.if-not-found.false in
     let q = c.vector_at-2 in
-    not_velocity c.args.s.now found is follows q.result q.ensures c.in_default-vector_at.is
+    let none : q.result ≡ None = grind arith in
+    let left = err_from_is_err_and c.from_residual-in_err-velocity.result c.from_residual-in_err-velocity.ensures.1 in
+    let same : c.from_residual-in_err-velocity.result ≡ Err NotAMessage = grind arith in
+    same ∙ not_velocity c.args.s.now found is follows q.result q.ensures none
 
 pub returns : goal.returns
 returns c =
@@ -73,8 +82,9 @@ returns c =
     let follows = not-false found.matches c.if-not-found.false in
     let p = c.vector_at in
     let q = c.vector_at-2 in
-    let x = c.in-Of in
-    let y = c.in-Of-vector_at in
+    let x = c.in_ok-position.position in
+    let y = c.in_ok-velocity.velocity in
+    let has_x : p.result ≡ Some x = grind arith in
+    let has_y : q.result ≡ Some y = grind arith in
     let all_legal = sym c.are_legal.ensures ∙ c.if-not-are_legal.false in
-    is_message c.args.s.now found is follows all_legal
-    p.result q.result x.position y.velocity p.ensures x.is q.ensures y.is
+    is_message c.args.s.now found is follows all_legal p.result q.result x y p.ensures has_x q.ensures has_y

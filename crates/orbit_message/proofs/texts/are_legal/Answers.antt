@@ -12,7 +12,7 @@ use Rattle.orbit_message.proofs.texts.are_legal.Goals.{In-loop-k}
 
 pub loop-k-init : goal.loop-k-init
 unfolding every values_between
-loop-k-init c = (omega arith, refl)
+loop-k-init c = refl
 
 -- The value k lies in the bytes.
 inside : (c : In-loop-k) →
@@ -29,11 +29,11 @@ loop-k-preserved c =
     let all = every is_legal (values_between s m.starts m.ends k) in
     let before : Bool → Bool = λ b. b && c.is_legal-all.result in
     let now_tested : Bool → Bool = λ b. all && b in
-    let tested = ap before c.loop-k.invariant.1 ∙ ap now_tested c.is_legal-all.ensures in
-    (omega arith, tested ∙ one_more_text s m.starts m.ends k)
+    let tested = ap before c.loop-k.invariant ∙ ap now_tested c.is_legal-all.ensures in
+    tested ∙ one_more_text s m.starts m.ends k
 
 pub returns : goal.returns
 returns c =
     let m = c.args.found in
     let all_eight : c.loop-k.k ≡ 8 = omega arith in
-    c.loop-k.invariant.1 ∙ ap (λ (k : ℕ). every is_legal (values_between c.args.s.now m.starts m.ends k)) all_eight
+    c.loop-k.invariant ∙ ap (λ (k : ℕ). every is_legal (values_between c.args.s.now m.starts m.ends k)) all_eight
