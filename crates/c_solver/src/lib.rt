@@ -9,7 +9,6 @@ ghost use Rattle.c_solver.specs.OutcomeWord.{void_word, outcome_word};
 
 pub mod curve;
 
-use hypergeometric::reason_number;
 use little_endian::signed32_bits;
 use question_record::write_record;
 use records::VOID_NUMBER;
@@ -45,7 +44,7 @@ fn void_word(station: VoidStation) -> u64
 {
     let reason = station.reason;
     VOID_NUMBER as u64
-        + 0x1_0000 * reason_number(reason) as u64
+        + 0x1_0000 * u64::from(u16::from(reason))
         + 0x1_0000_0000 * signed32_bits(station.j) as u64
 }
 

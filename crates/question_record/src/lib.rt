@@ -7,7 +7,6 @@ ghost use Rattle.little_endian.specs.Bytes.{written};
 ghost use Rattle.records.specs.Layout.{refusal_size};
 ghost use Rattle.records.specs.Records.{refusal_bytes};
 
-use hypergeometric::reason_number;
 use records::{ANSWER_ROOM, Refusal, VOID_NUMBER, refusal_with};
 use solver::{Cause, solve};
 use sweep::VoidStation;
@@ -61,7 +60,7 @@ fn void_refusal_for(question: &[u8], station: VoidStation) -> Refusal
         revision: records::revision_of(question),
         number: VOID_NUMBER,
         station: station.j,
-        reason: reason_number(reason),
+        reason: u16::from(reason),
     }
 }
 

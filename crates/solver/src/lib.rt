@@ -15,9 +15,8 @@ use records::VOID_NUMBER;
 use stations::Search;
 use sweep::VoidStation;
 
-// Why a question is refused: the fault that the entrance checks find, or what is wrong with the result of the search. `VoidStation` has
-// no comparison and no text, so a cause has neither.
-#[derive(Clone, Copy)]
+// Why a question is refused: the fault that the entrance checks find, or what is wrong with the result of the search.
+#[derive(Clone, Copy, Debug, PartialEq, Eq)]
 pub enum Cause {
     Entrance(Fault),
     // There is no crossing, and every station has a time.

@@ -10,4 +10,4 @@ pub returns : goal.returns
 unfolding void_refusal_for
 returns c =
     let fits : SFits w32 c.args.station.j = search (rules, c.well_formed) in
-    rw (to_z-of_z fits) (simp (c.reason_number.ensures, c.revision_of.ensures, c.job_of.ensures))
+    rw (to_z-of_z fits) (simp (c.from.ensures, c.revision_of.ensures, c.job_of.ensures))
