@@ -1,7 +1,7 @@
 // Numbers of 1, 2 and 4 bytes as values of the type of that width. They always fit, so no caller needs a cast.
 //
 // These are three functions and not one over a trait. A clause cannot use a value of a type parameter as a number, so the trait would
-// need a member that turns it into one, and callers would name the type at each call.
+// need a member that turns it into one, and a call would no longer show how many bytes it reads.
 ghost use Rattle.std.specs.Prelude.{◌≡◌};
 ghost use Rattle.little_endian.specs.Bytes.{number_at};
 

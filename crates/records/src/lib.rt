@@ -2,8 +2,8 @@
 // a byte past the end counts as 0. Writing starts at the first byte of the buffer. If the buffer is too short, a
 // write changes nothing and returns false.
 //
-// Each record has a function that writes it, and its own table of widths. One function over a trait is no shorter: every function is
-// one call of `put_numbers`, and the trait would need members for the table, for the numbers and for the bytes of the contract.
+// Each record has a function that writes it, and its own table of widths. One function over a trait is no shorter: each of these has
+// little more than a call of `put_numbers`, and the trait would need members for the table, the numbers and the bytes of the contract.
 #![tactic(auto)]
 
 ghost use Rattle.std.specs.Prelude.{◌≡◌};
