@@ -21,7 +21,8 @@ use Rattle.decimal.proofs.TextBytes.{sign_bytes, length_range}
 -- ---- `decimal_in`: n and b are its two numbers, and the whole part starts after `sign` bytes
 
 pub shown_by : (s : List ℕ) (sign n b : ℕ) → sign ≡ from_bool (eqb (get_or s 0 0) 45) → n ≡ value_at s sign (length s - 10 - sign) →
-    b ≡ value_at s (length s - 9) 9 → ◌≡◌ {A = Decimal} (record { negative = eqb (get_or s 0 0) 45; whole = n; billionths = b }) (decimal_in s)
+    b ≡ value_at s (length s - 9) 9 →
+    ◌≡◌ {A = Decimal} (record { negative = eqb (get_or s 0 0) 45; whole = n; billionths = b }) (decimal_in s)
 unfolding decimal_in
 shown_by s sign n b e f g = rw (f, g, e ∙ sign_bytes (eqb (get_or s 0 0) 45))
 

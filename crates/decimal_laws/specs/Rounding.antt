@@ -31,8 +31,8 @@ pub record NearestDecimal (x : Float) (d : Decimal) : Type 0 where
   -- The greatest f64 below 10 ^ 7 is 10 ^ 7 - 2 ^ -29. It rounds to 9999999.999999998, so a whole part of 10 ^ 7 never occurs.
   pub count_limit : count_in d ≤ 9999999999999998
 
--- r is x rounded to nine decimals, or `None` if x is refused. x is refused exactly if it is not finite or its size is 10 ^ 7 or more. Otherwise r is the nearest
--- decimal.
+-- r is x rounded to nine decimals, or `None` if x is refused. x is refused exactly if it is not finite or its size is 10 ^ 7 or more.
+-- Otherwise r is the nearest decimal.
 pub record IsRounded (x : Float) (r : Option Decimal) : Type 0 where
   pub refused_if : is_none r ≡ (not (finite_of x) || leb (10 ^ 7 * 2 ^ 1074) (units_of x))
   pub number_is : (d : Decimal) → r ≡ Some d → NearestDecimal x d

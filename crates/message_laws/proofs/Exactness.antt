@@ -174,7 +174,8 @@ only_refusal s r e = by (values_in template s) e
     by None g = cc
     by (Some vs) g = tested vs (are_values vs) g
 
-refused : (s : List ℕ) (r : Refusal) → read_of s ≡ Err r → (r ≡ NotAMessage) × ((ts : List (List ℕ)) (ns : List Decimal) → IsMessage s ts ns → ⊥)
+refused : (s : List ℕ) (r : Refusal) → read_of s ≡ Err r →
+    (r ≡ NotAMessage) × ((ts : List (List ℕ)) (ns : List Decimal) → IsMessage s ts ns → ⊥)
 refused s r e = (only_refusal s r e, λ ts ns m. let is = (complete s ts ns m).1 in zero_is_one (cc))
 
 pub reads_exactly : (s : List ℕ) → ReadsExactly s

@@ -1,5 +1,5 @@
--- `every` over two lists (`every_append`) and over a list with one more element at its end (`every_end`). Facts about `◌&&◌` that
--- they and other proofs use.
+-- `every` is the library's test of all elements (`every_is`). What it says of two lists (`every_append`) and of a list with one more
+-- element at its end (`every_end`). Facts about `◌&&◌` that they and other proofs use.
 use mathlib.Core.Path.{◌≡◌, refl, ap, ◌∙◌}
 use mathlib.Core.Bool.{Bool, true, false, ◌&&◌, false≢true}
 use mathlib.Core.List.{List, [], ◌∷◌, ◌++◌}

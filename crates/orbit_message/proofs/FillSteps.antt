@@ -1,7 +1,7 @@
--- The steps of filling a template. `byte_stored` is the store of `push`.
--- `value_is` gives the value k of a match. `value_fill_step` and `byte_fill_step` are the cases of `fill_step`: a 0 of the template, and
--- another byte. `next_byte`, `filled_next` and `filled_at_end` are the steps of the loop of `fill`. Its invariant is that the bytes
--- written, followed by the rest of the template filled with the values left, are the whole template filled with all values.
+-- The steps of filling a template. `value_is` gives the value k of a match. `value_fill_step` and `byte_fill_step` are the cases of
+-- `fill_step`: a 0 of the template, and another byte. `next_byte`, `filled_next` and `filled_at_end` are the steps of the loop of `fill`.
+-- Its invariant is that the bytes written, followed by the rest of the template filled with the values left, are the whole template filled
+-- with all values.
 use mathlib.Core.Path.{◌≡◌, refl, sym, ap, ◌∙◌}
 use mathlib.Core.Bool.{Bool, true, false}
 use mathlib.Core.List.{List, [], ◌∷◌, ◌++◌, append_assoc, append-nil}
@@ -10,18 +10,13 @@ use native.Mathlib.Numerals.{add-one}
 use native.Mathlib.Omega.{arith}
 use borrow.Author.Tests.{ltb-true, ltb-false}
 use lib.Dec.{ltb}
-use lib.ListN.{length, get_or, drop, take, set, length-append, length-drop, drop_of_length-le, get_or-append}
-use lib.Seq.{drop-cons, take-suc-set, get_or_at, length-take-le}
+use lib.ListN.{length, get_or, drop, length-append, length-drop, drop_of_length-le, get_or-append}
+use lib.Seq.{drop-cons, get_or_at, length-take-le}
 use Rattle.orbit_message.specs.Templates.{filled, placeholders_in}
 use Rattle.orbit_message.specs.Matches.{part, values_between, matched_values}
 use Rattle.orbit_message.specs.Fillings.{Fits, filled_bytes, FillStep}
 use Rattle.orbit_message.specs.declared.matching.Match.{Match}
 use Rattle.orbit_message.specs.declared.filling.Filling.{Filling}
-
--- ---- bytes stored in an array
-
-pub byte_stored : (b : List ℕ) (n v : ℕ) → n < length b → take (n + 1) (set b n v) ≡ take n b ++ (v ∷ [])
-byte_stored b n v h = rw add-one (take-suc-set b n v h)
 
 -- ---- the values of a match
 

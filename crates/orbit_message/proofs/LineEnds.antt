@@ -46,7 +46,8 @@ feed_found l r k e f = by (ltb (position_or_len is_feed l) (length l)) refl e
 pub no_feed : (l : List ℕ) (r : Option ℕ) → r ≡ position is_feed l → r ≡ None → [] ≡ after_line l
 no_feed l r e f = by (ltb (position_or_len is_feed l) (length l)) refl e
   where
-    by : (b : Bool) → ltb (position_or_len is_feed l) (length l) ≡ b → r ≡ cond b (Some (position_or_len is_feed l)) None → [] ≡ after_line l
+    by : (b : Bool) → ltb (position_or_len is_feed l) (length l) ≡ b → r ≡ cond b (Some (position_or_len is_feed l)) None →
+        [] ≡ after_line l
     by true g h = zero_is_one cc
     by false g h = sym (drop_of_length-le l (ltb-false (position_or_len is_feed l) (length l) g)) ∙ from_feed l
 

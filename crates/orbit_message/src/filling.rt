@@ -7,7 +7,8 @@ ghost use Rattle.orbit_message.specs.Fillings.{Fits, filled_bytes, FillStep};
 use crate::matching::Match;
 
 // The first `length` of the bytes are written so far. `count` is how often `append` was called; in `fill` that is the number of values
-// written. 1100 bytes are enough: the template of a message has 188 bytes, and each of its fourteen values at most 60.
+// written. 1100 bytes are enough: the template of a message has 188 bytes, and each of its fourteen values at most 60. The project uses no
+// heap, so the bytes are in an array.
 #[derive(Clone, Copy)]
 pub(crate) struct Filling {
     pub bytes: [u8; 1100],

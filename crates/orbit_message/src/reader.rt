@@ -8,8 +8,8 @@ use crate::refusals::Refusal;
 use crate::states::{State, vector_at};
 use crate::texts::are_legal;
 
-// Returns the six numbers of a message, or the refusal `NotAMessage` if the bytes are not exactly of the form that `write` writes: the fifteen lines,
-// with eight legal texts and the texts of six well-formed decimals.
+// Returns the six numbers of a message, or the refusal `NotAMessage` if the bytes are not exactly of the form that `write` writes: the
+// fifteen lines, with eight legal texts and the texts of six well-formed decimals.
 pub fn read(s: &[u8]) -> Result<State, Refusal>
     ensures { result ≡ read_of s.now }
 {

@@ -1,6 +1,4 @@
 -- `counts::rounded` meets its contract: both results are cases of `proofs/Halves.antt`.
-use Prim.Native.Nat.{◌*◌, ◌%◌, ◌^◌}
-use native.Mathlib.Nat.{div-le_self}
 use native.Mathlib.Omega.{arith}
 use Rattle.decimal.proofs.Products.{one_shifted}
 use Rattle.decimal.proofs.Halves.{rounded_up, rounded_down}
@@ -9,17 +7,8 @@ use Rattle.decimal.proofs.counts.rounded.Goals as goal
 pub overflow_mul-quotient : goal.overflow_mul-quotient
 overflow_mul-quotient c = omega (arith, one_shifted c.args.k c.requires.2)
 
-pub nonzero_div-quotient : goal.nonzero_div-quotient
-nonzero_div-quotient c = omega (arith, one_shifted c.args.k c.requires.2)
-
 pub overflow_mul-rest : goal.overflow_mul-rest
 overflow_mul-rest c = omega (arith, one_shifted c.args.k c.requires.2)
-
-pub nonzero_rem-rest : goal.nonzero_rem-rest
-nonzero_rem-rest c = omega (arith, one_shifted c.args.k c.requires.2)
-
-pub overflow_add-result : goal.overflow_add-result
-overflow_add-result c = omega (arith, div-le_self c.args.high (2 * ((1 * 2 ^ c.args.k) % 2 ^ 64)))
 
 pub returns-then-half-rest : goal.returns-then-half-rest
 returns-then-half-rest c =

@@ -5,6 +5,3 @@ use Rattle.decimal.proofs.texts.digit.Goals as goal
 
 pub nonzero_div-result : goal.nonzero_div-result
 nonzero_div-result c = rw c.pow.ensures (one-le-pow c.args.k 10 (lit< tt))
-
-pub returns : goal.returns
-returns c = rw c.pow.ensures

@@ -1,13 +1,7 @@
 -- `fill` meets its contract. The invariant's parts follow from the lemmas of `proofs/FillSteps.antt`.
 use native.Mathlib.Omega.{arith}
-use native.Mathlib.Nat.{zero-add}
-use mathlib.Core.Path.{refl}
-use Rattle.orbit_message.specs.Templates.{placeholders_in}
 use Rattle.orbit_message.proofs.FillSteps.{next_byte, filled_next, filled_at_end}
 use Rattle.orbit_message.proofs.filling.fill.Goals as goal
-
-pub loop-byte-init : goal.loop-byte-init
-loop-byte-init c = (omega arith, zero-add (placeholders_in c.args.template.now), omega (arith, c.requires.2), refl)
 
 pub fill_step-done-requires : goal.fill_step-done-requires
 fill_step-done-requires c =

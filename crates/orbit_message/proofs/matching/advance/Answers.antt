@@ -1,26 +1,10 @@
 -- `advance` meets its contract. The three returns are the cases of `proofs/MatchSteps.antt`: a 0 of the template, another byte of the
 -- template, and another byte of the template at the end of s.
-use native.Mathlib.Omega.{arith}
 use mathlib.Core.Path.{◌≡◌}
 use lib.ListN.{length}
 use Rattle.orbit_message.proofs.MatchSteps.{value_step, byte_step, end_step}
 use borrow.Author.Rules.{rules}
 use Rattle.orbit_message.proofs.matching.advance.Goals as goal
-
-pub offset_bounds-starts-k : goal.offset_bounds-starts-k
-offset_bounds-starts-k c = omega (arith, c.requires.1 c.if-byte-eq0.true)
-
-pub bounds-starts-k : goal.bounds-starts-k
-bounds-starts-k c = c.requires.1 c.if-byte-eq0.true
-
-pub offset_bounds-ends-k : goal.offset_bounds-ends-k
-offset_bounds-ends-k c = omega (arith, c.requires.1 c.if-byte-eq0.true)
-
-pub bounds-ends-k : goal.bounds-ends-k
-bounds-ends-k c = c.requires.1 c.if-byte-eq0.true
-
-pub overflow_add-result : goal.overflow_add-result
-overflow_add-result c = omega (arith, c.requires.1 c.if-byte-eq0.true)
 
 pub returns-then-byte-eq0 : goal.returns-then-byte-eq0
 returns-then-byte-eq0 c =

@@ -2,7 +2,6 @@
 use mathlib.Core.Path.{ap, ◌∙◌}
 use mathlib.Core.Bool.{Bool, not, ◌&&◌}
 use Prim.Native.Nat.{◌-◌, ◌≤◌}
-use native.Mathlib.Omega.{arith}
 use lib.Dec.{eqb}
 use lib.ListN.{length, get_or}
 use Rattle.orbit_message.proofs.TextTests.{out_of_bounds, in_bounds, legal_if}
@@ -15,15 +14,6 @@ returns-then-n c = out_of_bounds c.args.s.now c.if-n.true
 -- The length is 1 to 60.
 sized : (c : Else-n) → (1 ≤ length c.args.s.now) × (length c.args.s.now ≤ 60)
 sized c = in_bounds c.args.s.now c.if-n.false
-
-pub bounds-s-0 : goal.bounds-s-0
-bounds-s-0 c = omega (arith, (sized (goal.at.bounds-s-0 c).Else-n).0)
-
-pub overflow_sub-result : goal.overflow_sub-result
-overflow_sub-result c = (sized (goal.at.overflow_sub-result c).Else-n).0
-
-pub bounds-s-n : goal.bounds-s-n
-bounds-s-n c = omega (arith, (sized (goal.at.bounds-s-n c).Else-n).0)
 
 pub returns : goal.returns
 returns c =

@@ -11,9 +11,6 @@ use Rattle.records.specs.declared.Entry.{Entry}
 use Rattle.orbit_message.specs.Writing.{departure_velocity}
 use Rattle.orbit_message.proofs.writer.departure_velocity.Goals as goal
 
-pub overflow_cast-entry : goal.overflow_cast-entry
-overflow_cast-entry c = omega (arith, c.requires.1)
-
 pub returns : goal.returns
 unfolding departure_velocity
 returns c =
