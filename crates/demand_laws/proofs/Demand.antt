@@ -62,7 +62,8 @@ or_late None late = late
 or_late (Some f) late = Some (Entrance f)
 
 -- A void station is the cause of a later row.
-late_void : (o : Option Fault) (late : Option Cause) (v : VoidStation) → or_late o late ≡ Some (StationVoid v) → late ≡ Some (StationVoid v)
+late_void : (o : Option Fault) (late : Option Cause) (v : VoidStation) → or_late o late ≡ Some (StationVoid v) →
+    late ≡ Some (StationVoid v)
 late_void None late v e = e
 late_void (Some f) late v e = absurd (omega (arith, ap (number_or_0 cause_number) e, fault_most f))
 

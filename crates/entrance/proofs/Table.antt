@@ -185,7 +185,9 @@ fault_most FlatTriangle = lit≤ tt
 -- The fault with a number from 1 to 10.
 fault_at : ℕ → Fault
 fault_at n =
-    cond (eqb n 1) Malformed (cond (eqb n 2) PositionFar (cond (eqb n 3) RadiusOutside (cond (eqb n 4) MuOutside (cond (eqb n 5) TimeOutside (cond (eqb n 6) ManyRevolutions (cond (eqb n 7) SmallBuffer (cond (eqb n 8) NoPlane (cond (eqb n 9) ShortChord FlatTriangle))))))))
+    cond (eqb n 1) Malformed (cond (eqb n 2) PositionFar (cond (eqb n 3) RadiusOutside (cond (eqb n 4) MuOutside
+    (cond (eqb n 5) TimeOutside (cond (eqb n 6) ManyRevolutions (cond (eqb n 7) SmallBuffer (cond (eqb n 8) NoPlane
+    (cond (eqb n 9) ShortChord FlatTriangle))))))))
 
 at_number : (f : Fault) → fault_at (fault_number f) ≡ f
 unfolding fault_at
@@ -269,7 +271,9 @@ module _ (s : List ℕ) (room : ℕ) where
   unfolding judge_of condition_of
   accepted_exactly = record {
     only = λ e. first_none 0 rows rising (sym number_is ∙ ap verdict_number e);
-    always = λ f. accepted_when (no_number found (sym (number_first fault_number (checks (length s) room q g)) ∙ none_first 0 rows rising f));
+    always = λ f.
+        let none = sym (number_first fault_number (checks (length s) room q g)) ∙ none_first 0 rows rising f in
+        accepted_when (no_number found none);
   }
 
   -- An accepted problem is the problem of the question itself (`accepted_problem`), and the answer buffer then has room
@@ -296,4 +300,6 @@ module _ (s : List ℕ) (room : ℕ) where
   -- No number outside 1 to 10 has a condition that holds.
   pub only_ten : (n : ℕ) → condition_of s room n ≡ true → (0 < n) × (n ≤ 10)
   unfolding condition_of
-  only_ten n e = (later 0 rows n rising e, le_of_suc-le-suc (lt_of_not-le (λ (h : 11 ≤ n). true≢false (sym e ∙ above 10 rows n to_ten h))))
+  only_ten n e =
+      let most : 11 ≤ n → ⊥ = λ h. true≢false (sym e ∙ above 10 rows n to_ten h) in
+      (later 0 rows n rising e, le_of_suc-le-suc (lt_of_not-le most))

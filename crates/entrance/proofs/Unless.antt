@@ -1,5 +1,6 @@
--- If `unless` gives no error with one value, it gives none with another (`unless_ok`), and if it gives an error with one value, it gives
--- the same with another (`unless_err`), because there is no fault (`no_fault`) or that fault (`a_fault`). `err_is` says which error a `?` returns.
+-- If `unless` gives no error with one value, it gives none with another (`unless_ok`), because there is no fault (`no_fault`). If it gives
+-- an error with one value, it gives the same with another (`unless_err`), because that is the fault (`a_fault`). `err_is` says which error
+-- a `?` returns.
 use mathlib.Core.Path.{◌≡◌, refl, ap}
 use Prim.Native.Nat.{ℕ}
 use native.Mathlib.Omega.{arith}

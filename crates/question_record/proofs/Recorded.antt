@@ -60,7 +60,8 @@ module _ (question buffer : List ℕ) where
   abbrev Laid : ℕ → Solved → List ℕ → Type 0
   Laid n s bytes = (s.buffer ≡ written buffer bytes) × (length bytes ≡ answer_size n)
 
-  answer_by : (n : ℕ) (j : Result Problem Fault) → (solved_after j buffer).outcome ≡ Ok n → Laid n (solved_after j buffer) (record_after question j)
+  answer_by : (n : ℕ) (j : Result Problem Fault) → (solved_after j buffer).outcome ≡ Ok n →
+      Laid n (solved_after j buffer) (record_after question j)
   unfolding settled_of
   answer_by n (Err f) e = apart e
   answer_by n (Ok p) e =
@@ -142,7 +143,8 @@ void_record_length question station = refusal_length (void_refusal_for question 
 refusal_short : (r : Refusal) → length (refusal_bytes r) ≤ answer_room
 refusal_short r = omega (arith, refusal_length r, refusal_room r.number)
 
-short_for : (question : List ℕ) (p : Problem) (o : Result ℕ Cause) → outcome_for p ≡ o → length (outcome_record question p o) ≤ answer_room
+short_for : (question : List ℕ) (p : Problem) (o : Result ℕ Cause) → outcome_for p ≡ o →
+    length (outcome_record question p o) ≤ answer_room
 short_for question p (Ok n) e =
     let few-number = late_number p ∙ ap (number_or_0 cause_number) (has_entries p n e).none in
     let most : length (entries_of p) ≤ most_entries = omega (arith, count_is p (few p few-number), most_eight p) in

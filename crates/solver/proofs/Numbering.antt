@@ -50,8 +50,8 @@ by_report (some_void_lem station) false true count e = rw e
 by_report (some_void_lem station) false false count e = rw e
 
 -- A cause that is not a void station.
-other_cause : {P : Type 0} (o : Option Cause) (v : VoidStation) → (number_or_0 cause_number o ≡ void_number → ⊥) → o ≡ Some (StationVoid v)
-    → P
+other_cause : {P : Type 0} (o : Option Cause) (v : VoidStation) → (number_or_0 cause_number o ≡ void_number → ⊥) →
+    o ≡ Some (StationVoid v) → P
 other_cause o v h e = absurd (h (ap (number_or_0 cause_number) e))
 
 by_cause : {seen : Walk} {void : Bool} → Agrees seen void → (none ninth finite : Bool) (v : VoidStation) →

@@ -37,8 +37,8 @@ found_is c = c.find_crossings-found.ensures
 count_most : (c : After-find_crossings-found) → c.find_crossings-found.result.count ≤ most_entries
 count_most c = subst (λ (x : Crossings). x.count ≤ most_entries) (sym (found_is c)) (most_eight c.args.p)
 
--- `check_search` returned the cause of the first row that applies, since `all_finite` returned whether the velocities of all listed brackets
--- are finite.
+-- `check_search` returned the cause of the first row that applies, since `all_finite` returned whether the velocities of all listed
+-- brackets are finite.
 cause_at : (c : After-check_search) → c.check_search.result ≡ unless (first_of (late_checks c.args.p)) tt
 unfolding sides_of
 cause_at c =
