@@ -17,8 +17,8 @@ use std::io::{Read, Write};
 // The size of the longest piece.
 const LONGEST: usize = 65535;
 
-// Reading stopped before the end of the input: a read or a write failed, a length is not in force, or the reader needs a reset. What is to
-// be said of it is on standard error already.
+// Reading stopped before the end of the input: a read or a write failed, a length is not in force, or the reader needs a reset. What is
+// to be said of it is on standard error already.
 #[derive(Clone, Copy, Debug, PartialEq, Eq)]
 struct Stopped;
 
@@ -31,8 +31,8 @@ fn main(rt: HostRuntime) {
     }
 }
 
-// Reads and feeds every piece, and returns whether another may follow. The prover requires a bound on the loop. The input has none, so the
-// bound is a count that no input reaches.
+// Reads and feeds every piece, and returns whether another may follow. The prover requires a bound on the loop. The input has none, so
+// the bound is a count that no input reaches.
 fn read_pieces(
     rt: &impl Eprint,
     input: &mut impl Read,

@@ -1,6 +1,6 @@
 -- What is read of an input whose bytes are known: the rest of a record (`rest_read`), a whole record (`record_read`), and every record:
 -- before the first (`none_read`), after one more (`one_read`), and at the end (`all_read`).
-use Rattle.std.proofs.Common.{◌≡◌, ℕ, ◌+◌, ◌≤◌, true, List, ◌++◌, Option, Some, None, Result, Ok, Err, IfSome, length, take, drop}
+use Rattle.std.proofs.Common.{◌≡◌, ℕ, ◌+◌, ◌≤◌, true, List, ◌++◌, Option, Some, None, Ok, Err, IfSome, length, take, drop}
 use Rattle.std.proofs.Common.{arith, refl, sym, ap, ◌∙◌, subst}
 use borrow.Rule.Slice.PartMut.{put_mid}
 use lib.Seq.{take-add, drop-drop}
@@ -12,8 +12,7 @@ use Rattle.record_stream.specs.declared.Start.{Start}
 use Rattle.record_stream.specs.declared.Start.TheVariants as start
 use Rattle.record_stream.specs.Streams.{start_of, start_in, board_after, board_step}
 use Rattle.record_stream.proofs.Streams.{board_by_steps}
-use Rattle.post.specs.Posting.{RestRead, HeadRead, RecordRead, InputRead}
-use Rattle.post.specs.declared.Failure.{Failure}
+use Rattle.post.specs.Posting.{Next, RestRead, HeadRead, RecordRead, InputRead}
 
 -- ---- one record
 
@@ -30,7 +29,7 @@ rest_read (Some xs) left bytes part n rest more k next board after fits within s
     (first.1, posts ∙ ap (λ m. (post_of board m).board) message)
 
 module _ (xs : List ℕ) (left : Option (List ℕ)) (board after : List ℕ) where
-  by_start : (s : Start) → start_in xs ≡ s → (next : Result (Option ℕ) Failure)
+  by_start : (s : Start) → start_in xs ≡ s → (next : Next)
       → HeadRead s (take LENGTH.width xs) (drop LENGTH.width xs) left board after next → RecordRead xs left board after next
   by_start start.End e next h = subst (RecordRead xs left board after) (sym h.0) (e, h.1)
   by_start (start.Record rest) e (Ok (Some next)) h =
@@ -43,7 +42,7 @@ module _ (xs : List ℕ) (left : Option (List ℕ)) (board after : List ℕ) whe
 
 -- The first n bytes of a record were read to the start of the buffer, as many as a length field has or to the end of the input, and the
 -- rest was read as they say.
-pub record_read : (input mid left : Option (List ℕ)) (bytes part : List ℕ) (n k : ℕ) (next : Result (Option ℕ) Failure) (board after : List ℕ)
+pub record_read : (input mid left : Option (List ℕ)) (bytes part : List ℕ) (n k : ℕ) (next : Next) (board after : List ℕ)
     → n ≤ length part → length part ≡ LENGTH.width → Taken input mid part (Ok n)
     → IfSome mid (λ ys. let head = take n (put_mid 0 k bytes part) in HeadRead (start_of head) head ys left board after next)
     → IfSome input (λ xs. RecordRead xs left board after next)
@@ -71,7 +70,7 @@ pub none_read : (input : Option (List ℕ)) (board : List ℕ) → IfSome input 
 none_read None board = tt
 none_read (Some xs) board = record { left = xs; rest_is = refl; same = refl }
 
-module _ (first board after : List ℕ) (rest : Option (List ℕ)) (r : Result (Option ℕ) Failure) where
+module _ (first board after : List ℕ) (rest : Option (List ℕ)) (r : Next) where
   here : (xs : List ℕ) (mid : Option (List ℕ)) (next : Option ℕ) → r ≡ Ok next → (so : SoFar xs mid first board)
       → IfSome mid (λ ys. RecordRead ys rest board after r) → RecordRead so.left rest board after (Ok next)
   here xs mid next is so read =

@@ -20,6 +20,7 @@ pub fn record_of(question: &[u8], out: &mut [u8; ANSWER_ROOM]) -> usize
 }
 
 // The reply to a slot: how many bytes at the start of the buffer are to be written, and whether another slot may follow.
+// Both fields hold in every reply, so neither is an Option of the other.
 #[derive(Clone, Copy)]
 pub struct SlotReply {
     pub size: usize,

@@ -9,8 +9,8 @@ Taken old new buffer (Ok n) =
     IfSome old (λ xs. (take n buffer ≡ take (length buffer) xs) × (new ≡ Some (drop (length buffer) xs)))
 Taken old new buffer (Err e) = Unit {0}
 
--- What was read of the input xs as its next frame of n bytes. The frame is the first n bytes of xs, and the rest is left; or xs has fewer,
--- and nothing is left. After a failed read nothing is promised.
+-- What was read of the input xs as its next frame of n bytes. The frame is the first n bytes of xs, and the rest is left; or xs has
+-- fewer, and nothing is left. After a failed read nothing is promised.
 abbrev pub FrameTaken : (n : ℕ) (xs : List ℕ) → Option (List ℕ) → Result (Option (List ℕ)) Error → Type 0
 FrameTaken n xs left (Ok (Some frame)) = (n ≤ length xs) × (frame ≡ take n xs) × (left ≡ Some (drop n xs))
 FrameTaken n xs left (Ok None) = (length xs < n) × (left ≡ Some [])

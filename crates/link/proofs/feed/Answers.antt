@@ -71,8 +71,9 @@ answer_step-requires g c = question_fits _ _ _ c.read-step.ensures.step
 
 pub returns-then-is_empty : goal.returns-then-is_empty
 returns-then-is_empty g c =
-    sym (last_call c.loop.reader c.loop.rest.now (length c.args.piece.now - c.loop.counter + 1) c.read-step.result c.read-step.ensures.step
-    (omega arith) (search rules)) ∙ c.loop.invariant
+    let calls = length c.args.piece.now - c.loop.counter + 1 in
+    let is = last_call c.loop.reader c.loop.rest.now calls c.read-step.result c.read-step.ensures.step (omega arith) (search rules) in
+    sym is ∙ c.loop.invariant
 
 pub loop-preserved : goal.loop-preserved
 loop-preserved g c =

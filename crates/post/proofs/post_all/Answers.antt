@@ -1,12 +1,11 @@
 -- `post_all` meets its contract: each round posts at most one more record.
-use Rattle.std.proofs.Common.{◌≡◌, ℕ, List, [], ◌∷◌, ◌++◌, take, Option, Some, None, Result, Ok, Err, sym, refl, ap, ◌∙◌, subst, rules}
+use Rattle.std.proofs.Common.{◌≡◌, ℕ, List, [], ◌∷◌, ◌++◌, take, Option, Some, None, Ok, Err, sym, refl, ap, ◌∙◌, subst, rules}
 use Rattle.board.specs.Board.{post_of}
 use Rattle.board.specs.Posting.{post_all}
 use Rattle.record_stream.specs.declared.Start.{Start}
 use Rattle.record_stream.specs.declared.Start.TheVariants as start
 use Rattle.record_stream.specs.Streams.{start_of}
-use Rattle.post.specs.declared.Failure.{Failure}
-use Rattle.post.specs.Posting.{AfterRest, AfterStart, AfterNext, unread, begun, Postings}
+use Rattle.post.specs.Posting.{Next, AfterRest, AfterStart, AfterNext, unread, begun, Postings}
 use Rattle.post.proofs.WhatIsRead.{none_read, one_read, all_read}
 use Rattle.post.proofs.post_all.Goals as goal
 
@@ -28,17 +27,17 @@ module _ (first board buffer after : List ℕ) (place : ℕ) (so_far : Postings 
         posts = is ∙ ap (λ (b : List ℕ). (post_of b m).board) so_far.posts ∙ sym (post_last first so_far.records m);
       }
 
-  by_rest : (n rest : ℕ) (next : Result (Option ℕ) Failure) → AfterRest n rest place board buffer after next → Postings first after
+  by_rest : (n rest : ℕ) (next : Next) → AfterRest n rest place board buffer after next → Postings first after
   by_rest n rest (Ok (Some next)) is = posted (take is.size buffer) is.posts
   by_rest n rest (Ok None) is = absurd is
   by_rest n rest (Err f) is = stays is
 
-  by_start : (s : Start) (n : ℕ) (next : Result (Option ℕ) Failure) → AfterStart s n place board buffer after next → Postings first after
+  by_start : (s : Start) (n : ℕ) (next : Next) → AfterStart s n place board buffer after next → Postings first after
   by_start start.End n next is = stays is.1
   by_start (start.Record rest) n next is = by_rest n rest next is
   by_start start.NoRecord n next is = stays is.1
 
-  by_next : (next : Result (Option ℕ) Failure) → AfterNext place board buffer after next → Postings first after
+  by_next : (next : Next) → AfterNext place board buffer after next → Postings first after
   by_next next (unread failed is) = stays is
   by_next next (begun n few is) = by_start (start_of (take n buffer)) n next is
 
