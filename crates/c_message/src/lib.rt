@@ -10,8 +10,11 @@ use float64::{Vector, from_bits};
 use little_endian::put_numbers;
 use orbit_message::State;
 
-// The widths of the eighteen numbers: eight bytes each.
-const WIDTHS: [usize; 18] = [8; 18];
+// The numbers that a state is written as: three for each of its six decimals.
+const NUMBERS: usize = 3 * 6;
+
+// The widths of these numbers: eight bytes each.
+const WIDTHS: [usize; NUMBERS] = [8; NUMBERS];
 
 // Writes a message as `write` does, with the position r1 given by the bits of its components. Returns the length of the message, or the
 // number of the refusal: 1, 5, 6, 7 or 8 for B1, B5, B6, B7 or B8. Every message has at least 248 and at most 762 bytes, so the two cannot
@@ -43,7 +46,7 @@ pub extern "C" fn lambert_opm_write(
 }
 
 // Returns the sign, the whole part and the billionths of each number of a state.
-fn numbers_of(s: State) -> [u64; 18]
+fn numbers_of(s: State) -> [u64; NUMBERS]
     ensures { result ≡ state_words s }
 {
     let x = s.position.x;

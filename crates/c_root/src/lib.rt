@@ -23,7 +23,6 @@ pub fn lambert_root_bits(b: u64) -> u64
 // Replaces four numbers by their square roots and returns true. If at least one of them has no root, it changes nothing and returns
 // false. In C, the argument is a pointer to four doubles. The contract speaks of numbers, and all NaN patterns are one number: it does
 // not say that the bits of a NaN stay the same.
-#[tactic(auto, unfolding(crate::specs::FourNumbers::all_found, crate::specs::FourNumbers::numbers_after, crate::specs::FourNumbers::four_of))]
 pub fn lambert_four_roots(numbers: &mut [f64; 4]) -> bool
     ensures result { result ≡ all_found (four_roots_of (four_of numbers.old)) }
     ensures buffer { numbers.new ≡ numbers_after (four_roots_of (four_of numbers.old)) numbers.old }

@@ -68,7 +68,6 @@ fn walk_number(walk: Walk) -> u64
 // - bits 8 to 10: if bit 4 is set, the number of the reason why the first void station is void;
 // - bits 32 to 63: if bit 4 is set, the j of this station in two's complement.
 // All other bits are 0.
-#[tactic(auto, unfolding(sweep::specs::Crossings::sweep_of, sweep::specs::Crossings::reported, crate::specs::SweepNumber::sweep_number_of, crate::specs::SweepNumber::found_number))]
 pub fn lambert_sweep_number(b: u64, revolutions: u16, w: u64) -> u64
     ensures { result ≡ sweep_number_of b revolutions w }
 {

@@ -9,7 +9,8 @@ use Rattle.float64.specs.Notation.{bits}
 use Rattle.float64.specs.Value.{magnitude_of, finite_of}
 use Rattle.float64.specs.Root.{root_of}
 use Rattle.closed_case_laws.specs.Given.{with_lambda}
-use Rattle.hypergeometric.specs.Steps.{y_of, eta_of, c1_of, next_c, half_angles_of, ratio_of, series_from, series_of, s4_of, back_of, g_of}
+use Rattle.hypergeometric.specs.Steps.{y_of, eta_of, c1_of, next_c, half_angles_of, ratio_of, series_from, series_of, s4_of, back_of}
+use Rattle.hypergeometric.specs.Steps.{g_of}
 use Rattle.flight_time.specs.Steps.{outside_range, x_of, u_of, direct_of, with_revolutions}
 use Rattle.flight_time.specs.Time.{steps_of, time_of}
 use Rattle.hypergeometric.specs.declared.reasons.Reason.TheVariants.{OutsideRange, RefusedRoot, ZeroDivisor, NotFinite}
@@ -62,7 +63,8 @@ rows =
     ∷ []
 
 pub each_row_holds : map (λ (r : Row). time_of (with_lambda r.L) r.k r.m) rows ≡ map (λ (r : Row). r.place) rows
-unfolding rows row with_lambda time_of steps_of outside_range x_of u_of y_of eta_of c1_of next_c half_angles_of ratio_of series_from series_of
+unfolding rows row with_lambda time_of steps_of outside_range x_of u_of y_of eta_of c1_of next_c half_angles_of ratio_of series_from
+    series_of
     s4_of back_of
     g_of direct_of with_revolutions magnitude_of finite_of root_of add sub mul div neg lt eq of_bits of_int
 each_row_holds = refl
@@ -80,7 +82,8 @@ ends =
     row 0 low 0 unused ∷ row 0 (pos (2 ^ 34)) 0 unused ∷ row 0 (pos (2 ^ 32 - 2 ^ 20)) 16 unused ∷ row 0 low 16 unused ∷ []
 
 pub ends_are_timed : map (λ (r : Row). timed (time_of (with_lambda r.L) r.k r.m)) ends ≡ 1 ∷ 1 ∷ 1 ∷ 1 ∷ []
-unfolding ends row with_lambda time_of steps_of outside_range x_of u_of y_of eta_of c1_of next_c half_angles_of ratio_of series_from series_of
+unfolding ends row with_lambda time_of steps_of outside_range x_of u_of y_of eta_of c1_of next_c half_angles_of ratio_of series_from
+    series_of
     s4_of back_of g_of
     direct_of with_revolutions magnitude_of finite_of root_of add sub mul div neg lt eq of_bits of_int
 ends_are_timed = refl

@@ -15,7 +15,8 @@ use Rattle.float64.specs.Notation.{bits, 0F, 1F}
 use Rattle.float64.specs.Value.{magnitude_of, finite_of}
 use Rattle.float64.specs.Root.{root_of}
 use Rattle.hypergeometric.specs.Reasons.{reason_number}
-use Rattle.hypergeometric.specs.Steps.{y_of, eta_of, c1_of, next_c, half_angles_of, ratio_of, series_from, series_of, s4_of, back_of, g_of}
+use Rattle.hypergeometric.specs.Steps.{y_of, eta_of, c1_of, next_c, half_angles_of, ratio_of, series_from, series_of, s4_of, back_of}
+use Rattle.hypergeometric.specs.Steps.{g_of}
 use Rattle.hypergeometric.specs.declared.reasons.Reason.{Reason}
 use Rattle.hypergeometric.specs.declared.reasons.Reason.TheVariants.{OutsideRange, RefusedRoot, ZeroDivisor, NotFinite}
 use Rattle.flight_time.specs.Steps.{station_spacing, outside_range, x_of, u_of, direct_of, with_revolutions}
@@ -119,14 +120,16 @@ second_named L first reason timed void =
 
 pub second_root : (sweep_for (search_at 0xBFEF_FFFF_FFFF_FEFF 0 nan)).walk
     ≡ SomeVoid (record { j = neg_ℤ (pos 4094); reason = RefusedRoot })
-unfolding with_lambda station_of time_of steps_of outside_range x_of u_of y_of eta_of c1_of next_c half_angles_of ratio_of series_from series_of
+unfolding with_lambda station_of time_of steps_of outside_range x_of u_of y_of eta_of c1_of next_c half_angles_of ratio_of series_from
+    series_of
     s4_of back_of g_of
     direct_of with_revolutions magnitude_of finite_of root_of add sub mul div neg lt eq of_bits of_int
 second_root = second_named 0xBFEF_FFFF_FFFF_FEFF 0xBD2F_55C2_423C_84B0 RefusedRoot refl refl
 
 pub second_divisor : (sweep_for (search_at 0xBFEF_FFFF_FFD9_9CCD 0 nan)).walk
     ≡ SomeVoid (record { j = neg_ℤ (pos 4094); reason = ZeroDivisor })
-unfolding with_lambda station_of time_of steps_of outside_range x_of u_of y_of eta_of c1_of next_c half_angles_of ratio_of series_from series_of
+unfolding with_lambda station_of time_of steps_of outside_range x_of u_of y_of eta_of c1_of next_c half_angles_of ratio_of series_from
+    series_of
     s4_of back_of g_of
     direct_of with_revolutions magnitude_of finite_of root_of add sub mul div neg lt eq of_bits of_int
 second_divisor = second_named 0xBFEF_FFFF_FFD9_9CCD 0x3F1A_3A37_D421_2F16 ZeroDivisor refl refl

@@ -1,6 +1,7 @@
 -- The cases of `square_root`: a zero (`of_zero`), a positive finite number (`of_positive`), and all others, which are refused
 -- (`of_refused`). The bits of a positive finite number are above those of +0 and below those of +infinity (`positive_bits`).
-use Rattle.std.proofs.Common.{◌≡◌, ℕ, zero, suc, ◌+◌, ◌*◌, ◌/◌, ◌%◌, ◌^◌, ◌<◌, ◌≤◌, Bool, true, false, cond, not, ◌&&◌, T, eqb, ltb, leb, Some, None}
+use Rattle.std.proofs.Common.{◌≡◌, ℕ, zero, suc, ◌+◌, ◌*◌, ◌/◌, ◌%◌, ◌^◌, ◌<◌, ◌≤◌, Bool, true, false, cond, not, ◌&&◌, T, eqb, ltb, leb}
+use Rattle.std.proofs.Common.{Some, None}
 use Rattle.std.proofs.Common.{◌⊎◌, sym, refl, ap, ◌∙◌, subst, inl, inr, true≢false, lt_of_not-le, arith, le→leb, ltb→lt, nltb→le}
 use mathlib.Core.Bool.{false≢true}
 use lib.Ieee.{Float, nan, inf, fin, binary64, fits, is_nan, eq, lt, of_fields, of_bits, to_bits}
