@@ -11,6 +11,7 @@ use records::ANSWER_ROOM;
 const REFUSED_BITS: u64 = 0xFFFF_FFFF_FFFF_FFFF;
 
 // Returns the bits of the wanted time, or all ones if the question does not pass the entrance checks.
+#[tactic(auto, unfolding(crate::specs::Curve::wanted_bits))]
 pub fn lambert_wanted(question: &[u8]) -> u64
     ensures { result ≡ wanted_bits question.now }
 {
@@ -21,6 +22,7 @@ pub fn lambert_wanted(question: &[u8]) -> u64
 }
 
 // Returns how many stations the question's grid has.
+#[tactic(auto, unfolding(crate::specs::Curve::station_count))]
 pub fn lambert_stations(question: &[u8]) -> u64
     ensures { result ≡ station_count question.now }
 {
@@ -40,6 +42,7 @@ pub fn lambert_station(i: u16) -> i64
 
 // Returns the bits of the time at the place k. If the place is void, the result is 0x7FF8_0000_0000_0000 plus the number of the reason. If
 // the question does not pass the entrance checks, all bits are ones.
+#[tactic(auto, unfolding(crate::specs::Curve::time_bits))]
 pub fn lambert_time(question: &[u8], k: i64) -> u64
     ensures { result ≡ time_bits question.now k }
 {

@@ -17,6 +17,7 @@ const LONGEST_TIME: f64 = 1099511627776.0;
 
 const MOST_REVOLUTIONS: u16 = 16;
 
+#[tactic(auto, unfolding(crate::specs::Conditions::malformed))]
 fn is_malformed(size: usize, q: Question) -> bool
     ensures { result ≡ malformed size q }
 {
@@ -26,18 +27,21 @@ fn is_malformed(size: usize, q: Question) -> bool
 }
 
 // Reports whether a component is not finite or exceeds 2^40 in magnitude.
+#[tactic(auto, unfolding(crate::specs::Conditions::far_off))]
 fn far_off(x: f64) -> bool
     ensures { result ≡ far_off x }
 {
     !float64::is_finite(x) | (LARGEST_LENGTH < float64::magnitude(x))
 }
 
+#[tactic(auto, unfolding(crate::specs::Conditions::position_far))]
 fn position_far(v: Vector) -> bool
     ensures { result ≡ position_far v }
 {
     far_off(v.x) | (far_off(v.y) | far_off(v.z))
 }
 
+#[tactic(auto, unfolding(crate::specs::Conditions::positions_far))]
 fn positions_far(q: Question) -> bool
     ensures { result ≡ positions_far q }
 {
@@ -46,24 +50,28 @@ fn positions_far(q: Question) -> bool
     position_far(r1) | position_far(r2)
 }
 
+#[tactic(auto, unfolding(crate::specs::Conditions::mu_outside))]
 fn mu_outside(q: Question) -> bool
     ensures { result ≡ mu_outside q }
 {
     geometry::outside(1.0, LARGEST_MU, q.mu)
 }
 
+#[tactic(auto, unfolding(crate::specs::Conditions::time_outside))]
 fn time_outside(q: Question) -> bool
     ensures { result ≡ time_outside q }
 {
     geometry::outside(1.0, LONGEST_TIME, q.time)
 }
 
+#[tactic(auto, unfolding(crate::specs::Conditions::many_revolutions))]
 fn many_revolutions(q: Question) -> bool
     ensures { result ≡ many_revolutions q }
 {
     q.revolutions > MOST_REVOLUTIONS
 }
 
+#[tactic(auto, unfolding(crate::specs::Conditions::small_buffer))]
 fn small_buffer(room: usize) -> bool
     ensures { result ≡ small_buffer room }
 {

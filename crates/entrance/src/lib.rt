@@ -76,6 +76,7 @@ pub fn judge(question: &[u8], room: usize) -> Result<Problem, Fault>
 }
 
 // Returns the problem of a question, given its shape.
+#[tactic(auto, unfolding(crate::specs::Judge::problem_of))]
 fn problem_of(q: Question, shape: Shape) -> Problem
     ensures { result ≡ problem_of q shape }
 {
