@@ -362,8 +362,8 @@ module _ (b new : List ℕ) (board : is_board b ≡ true) where
         rw (whole h, lt-ltb SLOTS (length (pre ++ (new ∷ drop place cs))) (omega (arith, one_held_more, filled_is, full))) (refl, refl)
 
     enters_new : NotThere b new i → slots_before_free SLOTS b < SLOTS
-        → Gives b new (Ok tt) (put_mid (i * answer_room) answer_room (moved_up (i * answer_room) (slots_before_free SLOTS b * answer_room) b)
-        (slot_of new))
+        → let free = slots_before_free SLOTS b in
+        Gives b new (Ok tt) (put_mid (i * answer_room) answer_room (moved_up (i * answer_room) (free * answer_room) b) (slot_of new))
     unfolding board_of slots_in
     enters_new h room =
         let post = drop place cs in
