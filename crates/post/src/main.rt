@@ -4,8 +4,8 @@
 // writing a board. If a write fails, it prints a message to standard error too.
 #![tactic(auto)]
 
-ghost use Rattle.std.specs.Prelude.{◌≡◌, ◌≤◌, length, take, IfSome};
-ghost use Rattle.records.specs.Layout.{LENGTH, answer_room};
+ghost use Rattle.std.specs.Prelude.{◌≡◌, ◌≤◌, take, IfSome};
+ghost use Rattle.records.specs.Layout.{LENGTH};
 ghost use Rattle.record_stream.specs.Streams.{longest_rest, start_of};
 ghost use Rattle.post.specs.Posting.{AfterRest, AfterHead, AfterNext, Postings};
 ghost use Rattle.post.specs.Posting.{RestRead, HeadRead, RecordRead, InputRead, BoardWritten};
@@ -76,10 +76,9 @@ fn post_next<R: Read>(
     errors: &impl Print,
     input: &mut R,
     board: &mut [u8],
-    bytes: &mut [u8],
+    bytes: &mut [u8; ANSWER_ROOM],
     place: u64,
 ) -> Result<Option<u64>, Failure>
-    requires { length bytes.old ≡ answer_room }
     ensures board { AfterNext place board.old bytes.new board.new result }
     ensures input { IfSome (R.remaining input.old)
         (λ xs. RecordRead xs (R.remaining input.new) board.old board.new result) }
@@ -94,11 +93,10 @@ fn post_after<R: Read>(
     errors: &impl Print,
     input: &mut R,
     board: &mut [u8],
-    bytes: &mut [u8],
+    bytes: &mut [u8; ANSWER_ROOM],
     n: usize,
     place: u64,
 ) -> Result<Option<u64>, Failure>
-    requires room { length bytes.old ≡ answer_room }
     requires head { n ≤ LENGTH.width }
     ensures kept { take n bytes.new ≡ take n bytes.old }
     ensures board { AfterHead n place board.old bytes.new board.new result }
@@ -118,12 +116,11 @@ fn post_rest<R: Read>(
     errors: &impl Print,
     input: &mut R,
     board: &mut [u8],
-    bytes: &mut [u8],
+    bytes: &mut [u8; ANSWER_ROOM],
     n: usize,
     rest: usize,
     place: u64,
 ) -> Result<Option<u64>, Failure>
-    requires room { length bytes.old ≡ answer_room }
     requires head { n ≤ LENGTH.width }
     requires rest { rest ≤ longest_rest }
     ensures kept { take n bytes.new ≡ take n bytes.old }

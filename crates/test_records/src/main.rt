@@ -4,7 +4,7 @@
 // or write fails, it stops with the error.
 #![tactic(auto)]
 
-ghost use Rattle.std.specs.Prelude.{◌≡◌, ◌≤◌, length};
+ghost use Rattle.std.specs.Prelude.{◌≤◌};
 ghost use Rattle.records.specs.Layout.{LENGTH, answer_room};
 
 use records::{
@@ -27,9 +27,11 @@ fn main(rt: HostRuntime) -> io::Result<()> {
 }
 
 // Reads a record into the buffer, first its length and then the rest, and writes it out. Returns whether another record may follow.
-fn copy_record(rt: &impl Print, input: &mut impl Read, bytes: &mut [u8]) -> io::Result<bool>
-    requires { length bytes.old ≡ answer_room }
-{
+fn copy_record(
+    rt: &impl Print,
+    input: &mut impl Read,
+    bytes: &mut [u8; ANSWER_ROOM],
+) -> io::Result<bool> {
     let came = standard_input::fill(input, &mut bytes[..LENGTH_SIZE])?;
     if came < LENGTH_SIZE {
         return Ok(false);
@@ -45,10 +47,9 @@ fn copy_record(rt: &impl Print, input: &mut impl Read, bytes: &mut [u8]) -> io::
 fn copy_rest(
     rt: &impl Print,
     input: &mut impl Read,
-    bytes: &mut [u8],
+    bytes: &mut [u8; ANSWER_ROOM],
     size: usize,
 ) -> io::Result<bool>
-    requires room { length bytes.old ≡ answer_room }
     requires above { LENGTH.width ≤ size }
     requires below { size ≤ answer_room }
 {
@@ -61,15 +62,11 @@ fn copy_rest(
 }
 
 fn write_record(rt: &impl Print, bytes: &[u8]) -> io::Result<()> {
-    let kind = records::kind_of(bytes);
-    if kind == QUESTION_KIND {
-        write_question(rt, bytes)
-    } else if kind == ANSWER_KIND {
-        write_answer(rt, bytes)
-    } else if kind == REFUSAL_KIND {
-        write_refusal(rt, bytes)
-    } else {
-        Ok(())
+    match records::kind_of(bytes) {
+        QUESTION_KIND => write_question(rt, bytes),
+        ANSWER_KIND => write_answer(rt, bytes),
+        REFUSAL_KIND => write_refusal(rt, bytes),
+        _ => Ok(()),
     }
 }
 
