@@ -1,5 +1,5 @@
 -- The proofs of demand 1 for every question and every buffer (`demand_1`), and of demand 3 for a question past the entrance checks
--- (`demand_3`). Both follow from one equation, `solve_is`: a call gives the number of the first row of 01's whole table that applies, or
+-- (`demand_3`). Both follow from one equation, `solve_is`: a call gives the cause of the first row of 01's whole table that applies, or
 -- the answer if none applies.
 use mathlib.Core.Path.{◌≡◌, refl, sym, ap, ◌∙◌}
 use mathlib.Core.Bool.{true, false, cond}
@@ -188,6 +188,11 @@ module _ (s b : List ℕ) where
   -- A refusal with a station has number 12, and the station is that of the report.
   void_number_lem : (v : VoidStation) → (solve_of s b).outcome ≡ Err (StationVoid v) → N ≡ void_number
   void_number_lem v e = sym number_is ∙ ap outcome_number e
+
+  -- A refusal that has no station does not have number 12.
+  pub plain_other : (cause : Cause) → (solve_of s b).outcome ≡ Err cause → ((v : VoidStation) → cause ≡ StationVoid v → ⊥)
+      → cause_number cause ≡ void_number → ⊥
+  plain_other cause e plain z = let station = twelve_named cause z in plain station.0 station.1
 
   pub void_seen : (v : VoidStation) → (solve_of s b).outcome ≡ Err (StationVoid v) → seen_of p ≡ SomeVoid v
   void_seen v e =
