@@ -100,7 +100,8 @@ pub(crate) fn cut_count(count: usize) -> u16
 }
 
 // Returns the entries of the first `count` brackets, or of all brackets if `count` is larger than
-// the list. The unused elements after these entries hold zeros.
+// the list. The unused elements after these entries hold zeros. The list stands beside its count, as
+// the sweep gives it, here and in the functions that take entries.
 pub fn entries_of(p: Problem, list: [Bracket; MOST_ENTRIES], count: usize) -> [Entry; MOST_ENTRIES]
     ensures places { result ≡ places (map (entry_for p) (take count list)) }
     ensures taken { take count result ≡ map (entry_for p) (take count list) }

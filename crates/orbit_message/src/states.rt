@@ -48,7 +48,8 @@ pub(crate) fn vector_at(s: &[u8], found: Match, k: usize) -> Option<DecimalVecto
     })
 }
 
-// Rounds each component of a vector. Returns `None` if one of them is out of range.
+// Rounds each component of a vector. Returns `None` if one of them is out of range. With `vector_at` as one function over a closure, each
+// would still have a line for each component.
 fn vector_of(v: Vector) -> Option<DecimalVector>
     ensures { result ≡ vector_of v }
 {

@@ -16,8 +16,8 @@ pub use walks::{VoidStation, Walk};
 use walks::{report_with, walk_of};
 
 // The result of a sweep: the brackets of the first eight crossings, the lowest first. The list has
-// eight elements. The first `count` of them are used, and the others are zeros. `walk` is the report
-// about the times at the stations.
+// eight elements. The first `count` of them are used, and the others are zeros: 01 asks for an array
+// beside a count (Where to use each form). `walk` is the report about the times at the stations.
 #[derive(Clone, Copy)]
 pub struct Crossings {
     pub list: [Bracket; 8],

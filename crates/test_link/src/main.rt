@@ -67,7 +67,8 @@ fn read_and_feed(
 }
 
 // Passes in a piece, and passes in again the bytes that a call did not take, until none are left or a reset is needed. Each call takes at
-// least one byte while some are left, so one call more than the piece has bytes is enough.
+// least one byte while some are left, so one call more than the piece has bytes is enough. The program `link` has a loop like this one, but
+// it writes records and stops at a failure.
 fn feed(rt: &impl Print, reader: Reader, piece: &[u8]) -> io::Result<Reader> {
     let mut now = reader;
     let mut rest = piece;
