@@ -46,6 +46,8 @@ fn takes_upper(p: Problem, b: Bracket) -> bool
     upper_of(place_at(p, b.lower), place_at(p, b.upper), p.wanted)
 }
 
+// Returns the velocities at place k. They need five fields of the problem, which `velocity` takes one by one: it is below the crate of
+// `Problem`, and a struct of its own would only repeat these fields.
 #[tactic(auto, unfolding(crate::specs::Entries::velocities_at))]
 fn velocities_at(p: Problem, k: i64) -> Velocities
     ensures { result ≡ velocities_at p k }

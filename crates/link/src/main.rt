@@ -48,7 +48,8 @@ fn read_pieces(
     Ok(true)
 }
 
-// Reads and feeds the next piece, and returns whether another may follow.
+// Reads and feeds the next piece, and returns whether another may follow. The handles are passed one by one: a struct of
+// the three would need a type parameter for each.
 fn read_piece(
     rt: &impl Eprint,
     input: &mut impl Read,

@@ -71,7 +71,8 @@ fn post_all<R: Read>(errors: &impl Print, input: &mut R, board: &mut [u8]) -> Re
 }
 
 // Posts the record at byte offset `place` of the input, and returns the offset of the next one, or None at the end of the
-// input. Reads the record into `bytes`: first its length field, then the rest.
+// input. Reads the record into `bytes`: first its length field, then the rest. What is lent is passed one by one,
+// because the contract speaks of the input and of the board before and after.
 fn post_next<R: Read>(
     errors: &impl Print,
     input: &mut R,
