@@ -13,9 +13,10 @@ use lib.Dec.{ltb}
 use lib.ListN.{length, get_or, drop, length-append, length-drop, drop_of_length-le, get_or-append}
 use lib.Seq.{drop-cons, get_or_at, length-take-le}
 use Rattle.orbit_message.specs.Templates.{filled, placeholders_in}
-use Rattle.orbit_message.specs.Matches.{part, values_between, matched_values}
+use Rattle.orbit_message.specs.Matches.{part, part_at, span_at, matched_value, values_between, matched_values}
 use Rattle.orbit_message.specs.Fillings.{Fits, filled_bytes, FillStep}
 use Rattle.orbit_message.specs.declared.matching.Match.{Match}
+use Rattle.orbit_message.specs.declared.matching.Span.{Span}
 use Rattle.orbit_message.specs.declared.filling.Filling.{Filling}
 
 -- ---- the values of a match
@@ -24,62 +25,62 @@ use Rattle.orbit_message.specs.declared.filling.Filling.{Filling}
 pub part_size : (s : List ℕ) (a e : ℕ) → a ≤ e → e ≤ length s → length (part s a e) ≡ e - a
 part_size s a e h k = length-take-le (e - a) (drop a s) (simp length-drop (omega arith))
 
-pub length_values : (s starts ends : List ℕ) (n : ℕ) → length (values_between s starts ends n) ≡ n
+pub length_values : (s : List ℕ) (spans : List Span) (n : ℕ) → length (values_between s spans n) ≡ n
 unfolding values_between
-length_values s starts ends zero = refl
-length_values s starts ends (suc n) =
-    let last = part s (get_or starts n 0) (get_or ends n 0) in
-    length-append (values_between s starts ends n) (last ∷ [])
-    ∙ ap (λ (x : ℕ). x + 1) (length_values s starts ends n)
+length_values s spans zero = refl
+length_values s spans (suc n) =
+    let last = part_at s (span_at spans n) in
+    length-append (values_between s spans n) (last ∷ [])
+    ∙ ap (λ (x : ℕ). x + 1) (length_values s spans n)
     ∙ add-one n
 
-pub value_is : (s starts ends : List ℕ) (n k : ℕ) → k < n →
-    get_or (values_between s starts ends n) k [] ≡ part s (get_or starts k 0) (get_or ends k 0)
+pub value_is : (s : List ℕ) (spans : List Span) (n k : ℕ) → k < n →
+    get_or (values_between s spans n) k [] ≡ part_at s (span_at spans k)
 unfolding values_between
-value_is s starts ends zero k h = absurd (omega arith)
-value_is s starts ends (suc n) k h = by (λ l. value_is s starts ends n k l) (ltb k n) refl
+value_is s spans zero k h = absurd (omega arith)
+value_is s spans (suc n) k h = by (λ l. value_is s spans n k l) (ltb k n) refl
   where
-    by : (k < n → get_or (values_between s starts ends n) k [] ≡ part s (get_or starts k 0) (get_or ends k 0)) →
+    by : (k < n → get_or (values_between s spans n) k [] ≡ part_at s (span_at spans k)) →
         (b : Bool) → ltb k n ≡ b →
-        get_or (values_between s starts ends n ++ (part s (get_or starts n 0) (get_or ends n 0) ∷ [])) k []
-        ≡ part s (get_or starts k 0) (get_or ends k 0)
+        get_or (values_between s spans n ++ (part_at s (span_at spans n) ∷ [])) k []
+        ≡ part_at s (span_at spans k)
     by rest true q =
         let earlier = ltb-true k n q in
-        let last = part s (get_or starts n 0) (get_or ends n 0) in
-        get_or-append (values_between s starts ends n) (last ∷ []) [] k (rw length_values earlier) ∙ rest earlier
+        let last = part_at s (span_at spans n) in
+        get_or-append (values_between s spans n) (last ∷ []) [] k (rw length_values earlier) ∙ rest earlier
     by rest false q =
         let not-Earlier = ltb-false k n q in
         let same : n ≡ k = omega arith in
-        let last = part s (get_or starts n 0) (get_or ends n 0) in
-        get_or_at (values_between s starts ends n) last [] [] k (length_values s starts ends n ∙ same)
-        ∙ ap (λ (x : ℕ). part s (get_or starts x 0) (get_or ends x 0)) same
+        let last = part_at s (span_at spans n) in
+        get_or_at (values_between s spans n) last [] [] k (length_values s spans n ∙ same)
+        ∙ ap (λ (x : ℕ). part_at s (span_at spans x)) same
 
 -- The values from k on are the value k and the values from k + 1 on.
-values_from : (s starts ends : List ℕ) (n k : ℕ) → k < n →
-    let vs = values_between s starts ends n in
-    drop k vs ≡ part s (get_or starts k 0) (get_or ends k 0) ∷ drop (suc k) vs
-values_from s starts ends n k h =
-    let vs = values_between s starts ends n in
-    drop-cons vs k [] (rw length_values h) ∙ ap (λ (v : List ℕ). v ∷ drop (suc k) vs) (value_is s starts ends n k h)
+values_from : (s : List ℕ) (spans : List Span) (n k : ℕ) → k < n →
+    let vs = values_between s spans n in
+    drop k vs ≡ part_at s (span_at spans k) ∷ drop (suc k) vs
+values_from s spans n k h =
+    let vs = values_between s spans n in
+    drop-cons vs k [] (rw length_values h) ∙ ap (λ (v : List ℕ). v ∷ drop (suc k) vs) (value_is s spans n k h)
 
 -- ---- one byte of the template
 
 pub value_fill_step : (s : List ℕ) (m : Match) (old new : Filling) → Fits s m → old.count < m.count →
-    filled_bytes new ≡ filled_bytes old ++ part s (get_or m.starts old.count 0) (get_or m.ends old.count 0) →
-    new.length ≡ old.length + (get_or m.ends old.count 0 - get_or m.starts old.count 0) →
+    filled_bytes new ≡ filled_bytes old ++ matched_value s m old.count →
+    new.length ≡ old.length + ((span_at m.spans old.count).end - (span_at m.spans old.count).start) →
     new.count ≡ old.count + 1 → FillStep s m 0 old new
 unfolding filled placeholders_in
 value_fill_step s m old new f h w l n =
     let k = old.count in
     let vs = matched_values s m in
-    let v = part s (get_or m.starts k 0) (get_or m.ends k 0) in
+    let v = matched_value s m k in
     let rest = drop (suc k) vs in
     let short = f.short k h in
     record {
       counted = n;
       bounded = omega arith;
       goes_on = λ t.
-          ap (λ (us : List (List ℕ)). filled_bytes old ++ filled (0 ∷ t) us) (values_from s m.starts m.ends m.count k h)
+          ap (λ (us : List (List ℕ)). filled_bytes old ++ filled (0 ∷ t) us) (values_from s m.spans m.count k h)
           ∙ sym (append_assoc (filled_bytes old) v (filled t rest))
           ∙ ap (λ (x : List ℕ). x ++ filled t rest) (sym w)
           ∙ ap (λ (j : ℕ). filled_bytes new ++ filled t (drop j vs)) (sym (n ∙ add-one k));

@@ -2,13 +2,14 @@
 -- number of the position or of the velocity is not a decimal (`not_position`, `not_velocity`), or the bytes are a message
 -- (`is_message`).
 use mathlib.Core.Path.{◌≡◌, refl, sym, ap, ◌∙◌}
-use mathlib.Core.Bool.{Bool, true, false, cond, ◌&&◌}
+use mathlib.Core.Bool.{true, false, ◌&&◌, and-false}
 use mathlib.Core.List.{List, [], ◌∷◌, ◌++◌}
 use Prim.Native.Nat.{ℕ}
 use lib.ListN.{take, drop}
 use Rattle.std.specs.Prelude.{Option, Some, None, Result, Ok, Err}
 use Rattle.decimal.specs.Texts.{is_decimal_text}
 use Rattle.orbit_message.specs.Texts.{every, is_legal}
+use Rattle.orbit_message.specs.Templates.{values_in}
 use Rattle.orbit_message.specs.Messages.{template}
 use Rattle.orbit_message.specs.Reading.{vector_in, state_in, are_values, result_for, read_of}
 use Rattle.orbit_message.specs.Matches.{matched_value, values_between, IsMatch}
@@ -18,7 +19,7 @@ use Rattle.orbit_message.specs.declared.states.DecimalVector.{DecimalVector}
 use Rattle.orbit_message.specs.declared.states.State.{State}
 use Rattle.orbit_message.specs.declared.refusals.Refusal.{Refusal}
 use Rattle.orbit_message.specs.declared.refusals.Refusal.TheVariants.{NotAMessage}
-use Rattle.orbit_message.proofs.EveryElement.{and-false, every_append}
+use Rattle.orbit_message.proofs.EveryElement.{every_append}
 use Rattle.orbit_message.proofs.StateCases.{test_failed, test_passed}
 use Rattle.orbit_message.proofs.MessageTemplate.{fourteen_placeholders}
 
@@ -37,14 +38,18 @@ all_pass : (vs : List (List ℕ)) → every is_legal (take 8 vs) ≡ true → ev
 unfolding result_for are_values
 all_pass vs e f = rw (e, f)
 
+pub not_template : (s : List ℕ) → values_in template s ≡ None → Err NotAMessage ≡ read_of s
+unfolding read_of result_for
+not_template s e = rw e refl
+
 -- ---- the values of a match with the template
 
 module _ (s : List ℕ) (m : Match) (is : IsMatch template s m) where
   values : List (List ℕ)
-  values = values_between s m.starts m.ends 14
+  values = values_between s m.spans 14
 
   abbrev texts : List (List ℕ)
-  texts = values_between s m.starts m.ends 8
+  texts = values_between s m.spans 8
 
   -- The values of the position and of the velocity.
   abbrev position : List (List ℕ)
@@ -61,50 +66,43 @@ module _ (s : List ℕ) (m : Match) (is : IsMatch template s m) where
   unfolding values values_between
   last_six = refl
 
-  read_is : read_of s ≡ result_for (cond m.matches (Some values) None)
+  read_is : result_for (Some values) ≡ read_of s
   unfolding read_of values
   read_is =
-      let all = ap (values_between s m.starts m.ends) (is.count_is ∙ fourteen_placeholders) in
-      ap result_for (is.outcome ∙ ap (λ (vs : List (List ℕ)). cond m.matches (Some vs) None) all)
+      let all = ap (values_between s m.spans) (is.count_is ∙ fourteen_placeholders) in
+      sym (ap result_for (is.outcome ∙ ap Some all))
 
-  pub not_template : m.matches ≡ false → Err NotAMessage ≡ read_of s
-  unfolding result_for
-  not_template e = sym (read_is ∙ ap (λ (b : Bool). result_for (cond b (Some values) None)) e)
-
-  found_is : m.matches ≡ true → result_for (Some values) ≡ read_of s
-  found_is e = sym (read_is ∙ ap (λ (b : Bool). result_for (cond b (Some values) None)) e)
-
-  pub not_legal : m.matches ≡ true → every is_legal texts ≡ false → Err NotAMessage ≡ read_of s
-  not_legal e f = texts_fail values (ap (every is_legal) first_eight ∙ f) ∙ found_is e
+  pub not_legal : every is_legal texts ≡ false → Err NotAMessage ≡ read_of s
+  not_legal f = texts_fail values (ap (every is_legal) first_eight ∙ f) ∙ read_is
 
   numbers : every is_decimal_text (drop 8 values) ≡ every is_decimal_text position && every is_decimal_text velocity
   numbers = ap (every is_decimal_text) last_six ∙ every_append is_decimal_text position velocity
 
-  pub not_position : m.matches ≡ true → (p : Option DecimalVector) → p ≡ vector_shown position → p ≡ None →
+  pub not_position : (p : Option DecimalVector) → p ≡ vector_shown position → p ≡ None →
       Err NotAMessage ≡ read_of s
   unfolding vector_shown
-  not_position e p f g =
+  not_position p f g =
       let none = test_failed (every is_decimal_text position) (vector_in position) p f g in
-      numbers_fail values (numbers ∙ rw none) ∙ found_is e
+      numbers_fail values (numbers ∙ rw none) ∙ read_is
 
-  pub not_velocity : m.matches ≡ true → (q : Option DecimalVector) → q ≡ vector_shown velocity → q ≡ None →
+  pub not_velocity : (q : Option DecimalVector) → q ≡ vector_shown velocity → q ≡ None →
       Err NotAMessage ≡ read_of s
   unfolding vector_shown
-  not_velocity e q f g =
+  not_velocity q f g =
       let none = test_failed (every is_decimal_text velocity) (vector_in velocity) q f g in
-      numbers_fail values (numbers ∙ rw (none, and-false (every is_decimal_text position))) ∙ found_is e
+      numbers_fail values (numbers ∙ rw (none, and-false (every is_decimal_text position))) ∙ read_is
 
   shown : (x y : DecimalVector) → x ≡ vector_in position → y ≡ vector_in velocity →
       ◌≡◌ {A = Result State Refusal} (Ok (record { position = x; velocity = y })) (Ok (state_in (drop 8 values)))
   unfolding state_in vector_in values values_between
   shown x y e f = rw (e, f)
 
-  pub is_message : m.matches ≡ true → every is_legal texts ≡ true → (p q : Option DecimalVector) (x y : DecimalVector) →
+  pub is_message : every is_legal texts ≡ true → (p q : Option DecimalVector) (x y : DecimalVector) →
       p ≡ vector_shown position → p ≡ Some x → q ≡ vector_shown velocity → q ≡ Some y →
       Ok (record { position = x; velocity = y }) ≡ read_of s
   unfolding vector_shown
-  is_message e f p q x y g h i j =
+  is_message f p q x y g h i j =
       let first = test_passed (every is_decimal_text position) (vector_in position) x p g h in
       let second = test_passed (every is_decimal_text velocity) (vector_in velocity) y q i j in
       let legal = ap (every is_legal) first_eight ∙ f in
-      shown x y first.1 second.1 ∙ all_pass values legal (numbers ∙ rw (first.0, second.0)) ∙ found_is e
+      shown x y first.1 second.1 ∙ all_pass values legal (numbers ∙ rw (first.0, second.0)) ∙ read_is

@@ -2,7 +2,7 @@
 -- The cases of rounding or reading a vector: a component is missing (`no_first`, `no_second`, `no_third`), or none is (`all_three`).
 -- The cases of rounding a state: a vector is missing (`no_position`, `no_velocity`), or none is (`both_vectors`).
 use mathlib.Core.Path.{◌≡◌, refl}
-use mathlib.Core.Bool.{Bool, true, false, cond}
+use mathlib.Core.Bool.{Bool, true, false, cond, and-false}
 use mathlib.Core.List.{[], ◌∷◌}
 use Rattle.std.specs.Prelude.{Option, Some, None}
 use Rattle.float64.specs.declared.Vector.{Vector}
@@ -13,7 +13,7 @@ use Rattle.orbit_message.specs.Writing.{components}
 use Rattle.orbit_message.specs.States.{rounded_vector, vector_of, state_of}
 use Rattle.orbit_message.specs.declared.states.DecimalVector.{DecimalVector}
 use Rattle.orbit_message.proofs.TemplateValues.{zero_is_one}
-use Rattle.orbit_message.proofs.EveryElement.{and-false, every_append}
+use Rattle.orbit_message.proofs.EveryElement.{every_append}
 
 -- ---- a value if a test passes
 

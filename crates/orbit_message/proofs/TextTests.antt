@@ -1,20 +1,17 @@
--- The tests of texts, for the functions of src/texts.rt: the length of a text (`out_of_bounds`,
--- `in_bounds`), all tests of one text (`legal_if`), one more value (`one_more_text`), and the eight lines (`not_eight_lines`,
--- `eight_lines`).
+-- The tests of texts, for the functions of src/texts.rt: the length of a text (`out_of_bounds`, `in_bounds`), all tests of one text
+-- (`legal_if`), and the eight lines (`not_eight_lines`, `eight_lines`).
 use mathlib.Core.Path.{◌≡◌, refl, sym, ap, ◌∙◌}
-use mathlib.Core.Bool.{Bool, true, false, cond, not, ◌&&◌, ◌||◌, true≢false}
-use mathlib.Core.List.{List, []}
-use Prim.Native.Nat.{ℕ, ◌+◌, ◌-◌, ◌≤◌}
-use native.Mathlib.Numerals.{add-one}
+use mathlib.Core.Bool.{Bool, true, false, not, ◌&&◌, ◌||◌, true≢false}
+use mathlib.Core.List.{List}
+use Prim.Native.Nat.{ℕ, ◌-◌, ◌≤◌}
 use borrow.Author.Tests.{le-leb, lt-leb, ltb-true, ltb-false}
 use lib.Dec.{eqb, ltb}
 use lib.ListN.{length, get_or}
-use Rattle.std.specs.Prelude.{Some, None}
-use Rattle.orbit_message.specs.Templates.{placeholders_in}
-use Rattle.orbit_message.specs.Texts.{every, is_printable, is_legal, lines_template, found_in, texts_in, are_texts}
-use Rattle.orbit_message.specs.Matches.{part, values_between, matched_values, IsMatch}
+use Rattle.std.specs.Prelude.{None}
+use Rattle.orbit_message.specs.Templates.{placeholders_in, values_in}
+use Rattle.orbit_message.specs.Texts.{every, is_printable, is_legal, lines_template, texts_in, are_texts}
+use Rattle.orbit_message.specs.Matches.{values_between, IsMatch}
 use Rattle.orbit_message.specs.declared.matching.Match.{Match}
-use Rattle.orbit_message.proofs.EveryElement.{every_end}
 
 -- ---- the bytes of a text
 
@@ -43,39 +40,20 @@ unfolding is_legal
 legal_if s h =
     rw (le-leb 1 (length s) h.0, le-leb (length s) 60 h.1)
 
--- ---- the values of a match
-
-pub one_more_text : (s starts ends : List ℕ) (k : ℕ) →
-    every is_legal (values_between s starts ends k) && is_legal (part s (get_or starts k 0) (get_or ends k 0))
-    ≡ every is_legal (values_between s starts ends (k + 1))
-unfolding values_between
-one_more_text s starts ends k =
-    let v = part s (get_or starts k 0) (get_or ends k 0) in
-    rw add-one (sym (every_end is_legal (values_between s starts ends k) v))
-
 -- ---- eight lines
 
 pub eight_placeholders : placeholders_in (lines_template 8) ≡ 8
 unfolding placeholders_in lines_template
 eight_placeholders = refl
 
-module _ (s : List ℕ) (m : Match) (is : IsMatch (lines_template 8) s m) where
-  pub texts_found : texts_in s ≡ cond m.matches (matched_values s m) []
-  unfolding texts_in
-  texts_found = ap found_in is.outcome ∙ by m.matches
-    where
-      by : (b : Bool) → found_in (cond b (Some (matched_values s m)) None) ≡ cond b (matched_values s m) []
-      by true = refl
-      by false = refl
+pub not_eight_lines : (s : List ℕ) → values_in (lines_template 8) s ≡ None → false ≡ are_texts (texts_in s)
+unfolding are_texts texts_in
+not_eight_lines s e = rw e refl
 
-  pub not_eight_lines : m.matches ≡ false → false ≡ are_texts (texts_in s)
-  unfolding are_texts
-  not_eight_lines f = rw (texts_found, f)
-
-  -- The texts are the eight values of the match.
-  pub texts_are : m.matches ≡ true → texts_in s ≡ values_between s m.starts m.ends 8
-  texts_are f = texts_found ∙ rw (f, is.count_is, eight_placeholders)
-
-  pub eight_lines : m.matches ≡ true → every is_legal (values_between s m.starts m.ends 8) ≡ are_texts (texts_in s)
-  unfolding are_texts values_between
-  eight_lines f = rw (texts_are f)
+-- The texts are the eight values of the match.
+pub eight_lines : (s : List ℕ) (m : Match) → IsMatch (lines_template 8) s m →
+    every is_legal (values_between s m.spans 8) ≡ are_texts (texts_in s)
+unfolding are_texts texts_in values_between
+eight_lines s m is =
+    let texts : texts_in s ≡ values_between s m.spans 8 = rw (is.outcome, is.count_is, eight_placeholders) refl in
+    rw texts refl

@@ -1,15 +1,14 @@
 -- Values as lines, for the functions of src/messages.rt: each value is on one line (`all_one_line`) and short (`all_short`), the
 -- fourteen lines are what was appended (`lined`), and the values found in them are the values (`lines_found`).
 use mathlib.Core.Path.{◌≡◌, refl, sym, ap, ◌∙◌}
-use mathlib.Core.Bool.{Bool, true, false, cond, not, ◌&&◌}
+use mathlib.Core.Bool.{true, not, ◌&&◌}
 use mathlib.Core.List.{List, [], ◌∷◌, ◌++◌, map, append_assoc}
 use Prim.Native.Nat.{ℕ, zero, suc, ◌+◌, ◌-◌, ◌*◌, ◌≤◌, ◌<◌}
-use native.Mathlib.Nat.{suc_inj, sub-zero}
+use native.Mathlib.Nat.{suc_inj}
 use native.Mathlib.Omega.{arith}
 use borrow.Author.Tests.{leb-true, eqb-true}
 use lib.Dec.{eqb, leb}
-use lib.ListN.{length, get_or, take, drop, length-append, length-map, length-take, length-drop}
-use lib.Seq.{length-take-le}
+use lib.ListN.{length, get_or, length-append, length-map}
 use Rattle.decimal.specs.declared.Decimal.{Decimal}
 use Rattle.decimal.specs.Texts.{text_of}
 use Rattle.decimal.proofs.TextBytes.{length_range}
@@ -18,13 +17,13 @@ use Rattle.std.specs.Prelude.{Some, None}
 use Rattle.orbit_message.specs.Templates.{Values, values_in, filled, placeholders_in}
 use Rattle.orbit_message.specs.Templates.{ValuesEndLines, OneLine, OneLineEach}
 use Rattle.orbit_message.specs.Texts.{every, is_printable, is_legal, lines_template, texts_in, are_texts, found_in}
-use Rattle.orbit_message.specs.Matches.{part, matched_values, IsMatch}
+use Rattle.orbit_message.specs.Matches.{part, span_at, matched_values, IsMatch}
 use Rattle.orbit_message.specs.Fillings.{Fits}
 use Rattle.orbit_message.specs.States.{lines_of, Lined}
 use Rattle.orbit_message.specs.declared.matching.Match.{Match}
 use Rattle.orbit_message.proofs.EveryElement.{both}
 use Rattle.orbit_message.proofs.TemplateValues.{zero_is_one, values_sound, values_complete}
-use Rattle.orbit_message.proofs.FillSteps.{value_is}
+use Rattle.orbit_message.proofs.FillSteps.{part_size, value_is}
 
 -- ---- a value is on one line
 
@@ -102,24 +101,6 @@ lines_length (t ∷ ts) e =
 
 -- ---- what is appended
 
-pub from_start : (b : List ℕ) (n : ℕ) → part b 0 n ≡ take n b
-from_start b n = ap (λ (x : ℕ). take x b) (sub-zero n)
-
--- The array of a decimal's text holds the text.
-pub text_room : (d : Decimal) (b : List ℕ) (n : ℕ) → take n b ≡ text_of d → n ≡ length (text_of d) → (n ≤ length b) × (n ≤ 18)
-text_room d b n e f =
-    let l : length (take n b) ≡ n = ap length e ∙ sym f in
-    let m = length-take n b in
-    let r = (length_range d).1 in
-    (omega arith, omega arith)
-
-pub number_appended : (d : Decimal) (b old mid all : List ℕ) (n : ℕ) → take n b ≡ text_of d → mid ≡ old ++ take n b →
-    all ≡ mid ++ (10 ∷ []) → all ≡ old ++ (text_of d ++ (10 ∷ []))
-number_appended d b old mid all n e f g =
-    g
-    ∙ ap (λ (l : List ℕ). l ++ (10 ∷ [])) (f ∙ ap (λ (l : List ℕ). old ++ l) e)
-    ∙ append_assoc old (text_of d) (10 ∷ [])
-
 pub three_appended : (x y z old a b all : List ℕ) → a ≡ old ++ (x ++ (10 ∷ [])) → b ≡ a ++ (y ++ (10 ∷ [])) →
     all ≡ b ++ (z ++ (10 ∷ [])) → all ≡ old ++ lines_of (x ∷ (y ∷ (z ∷ [])))
 unfolding lines_of
@@ -167,11 +148,9 @@ values_of_lines n s vs e p f =
 pub lines_found : (n : ℕ) (s : List ℕ) (m : Match) → IsMatch (lines_template n) s m → (vs : List (List ℕ)) → length vs ≡ n →
     OneLineEach vs →
     s ≡ lines_of vs → matched_values s m ≡ vs
-lines_found n s m is vs e p f = by m.matches (sym is.outcome ∙ values_of_lines n s vs e p f)
-  where
-    by : (b : Bool) → cond b (Some (matched_values s m)) None ≡ Some vs → matched_values s m ≡ vs
-    by true q = cc
-    by false q = zero_is_one cc
+lines_found n s m is vs e p f =
+    let found : Some (matched_values s m) ≡ Some vs = sym is.outcome ∙ values_of_lines n s vs e p f in
+    cc
 
 -- The texts that are handed in are the lines of the bytes.
 pub texts_lined : (s : List ℕ) → are_texts (texts_in s) ≡ true → s ≡ lines_of (texts_in s)
@@ -187,8 +166,11 @@ texts_lined s e = by (values_in (lines_template 8) s) refl e
 
 -- ---- fourteen lines
 
-part_length : (s : List ℕ) (a e : ℕ) → a ≤ e → e ≤ length s → length (part s a e) ≡ e - a
-part_length s a e h k = length-take-le (e - a) (drop a s) (simp length-drop (omega arith))
+-- Fourteen lines follow their template.
+pub lines_follow : (s : List ℕ) (vs : List (List ℕ)) → Lined s vs → values_in (lines_template 14) s ≡ None → ⊥
+lines_follow s vs l e =
+    let found = values_of_lines 14 s vs l.many l.one_line l.same in
+    zero_is_one cc
 
 pub lines_fit : (s : List ℕ) (m : Match) → IsMatch (lines_template 14) s m → (vs : List (List ℕ)) → Lined s vs → Fits s m
 lines_fit s m is vs l =
@@ -198,12 +180,12 @@ lines_fit s m is vs l =
       few = omega arith;
       inside = is.inside;
       short = λ k h.
-          let from = get_or m.starts k 0 in
-          let to = get_or m.ends k 0 in
+          let from = (span_at m.spans k).start in
+          let to = (span_at m.spans k).end in
           let ends = is.inside k h in
-          let size : length (part s from to) ≡ to - from = part_length s from to ends.0 ends.1 in
+          let size : length (part s from to) ≡ to - from = part_size s from to ends.0 ends.1 in
           let same : length (get_or vs k []) ≡ length (part s from to) =
-          ap (λ (us : List (List ℕ)). length (get_or us k [])) (sym values) ∙ ap length (value_is s m.starts m.ends m.count k h) in
+          ap (λ (us : List (List ℕ)). length (get_or us k [])) (sym values) ∙ ap length (value_is s m.spans m.count k h) in
           let bound = l.short k in
           omega arith;
     }

@@ -1,7 +1,7 @@
 -- What the functions of src/filling.rt require and compute. Definitions only; no public contract cites them.
-use Rattle.std.specs.Prelude.{ℕ, ◌+◌, ◌-◌, ◌*◌, ◌≤◌, ◌<◌, ◌≡◌, List, [], ◌∷◌, ◌++◌, get_or, take, drop}
+use Rattle.std.specs.Prelude.{ℕ, ◌+◌, ◌-◌, ◌*◌, ◌≤◌, ◌<◌, ◌≡◌, List, [], ◌∷◌, ◌++◌, take, drop}
 use Rattle.orbit_message.specs.Templates.{filled, placeholders_in}
-use Rattle.orbit_message.specs.Matches.{Inside, matched_values}
+use Rattle.orbit_message.specs.Matches.{span_at, Inside, matched_values}
 use Rattle.orbit_message.specs.declared.matching.Match.{Match}
 use Rattle.orbit_message.specs.declared.filling.Filling.{Filling}
 
@@ -9,7 +9,7 @@ use Rattle.orbit_message.specs.declared.filling.Filling.{Filling}
 pub record Fits (s : List ℕ) (m : Match) : Type 0 where
   pub few : m.count ≤ 14
   pub inside : Inside s m
-  pub short : (k : ℕ) → k < m.count → get_or m.ends k 0 - get_or m.starts k 0 ≤ 60
+  pub short : (k : ℕ) → k < m.count → (span_at m.spans k).end - (span_at m.spans k).start ≤ 60
 
 -- The bytes written so far.
 abbrev pub filled_bytes : Filling → List ℕ

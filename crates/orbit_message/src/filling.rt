@@ -1,4 +1,4 @@
-// Fills a template with values. The bytes are built in an array and returned by value.
+// Fills a template with values.
 ghost use Rattle.std.specs.Prelude.{◌≡◌, [], ◌∷◌, ◌++◌, ◌+◌, ◌-◌, ◌*◌, ◌≤◌, ◌<◌, length};
 ghost use Rattle.orbit_message.specs.Templates.{filled, placeholders_in};
 ghost use Rattle.orbit_message.specs.Matches.{matched_values};
@@ -16,53 +16,51 @@ pub(crate) struct Filling {
     pub count: usize,
 }
 
-// Appends the bytes of s, and adds 1 to `count`.
-pub(crate) fn append(old: Filling, s: &[u8]) -> Filling
-    requires { (old.length + length s.now ≤ 1100) × (old.count < 14) }
-    ensures { (filled_bytes result ≡ filled_bytes old ++ s.now)
-        × (result.length ≡ old.length + length s.now) × (result.count ≡ old.count + 1) }
-{
-    let end = old.length + s.len();
-    let mut bytes = old.bytes;
-    bytes[old.length..end].copy_from_slice(s);
-    Filling {
-        bytes,
-        length: end,
-        count: old.count + 1,
+impl Filling {
+    // Returns a filling with no bytes.
+    pub(crate) fn new() -> Filling
+        ensures { (filled_bytes result ≡ []) × (result.length ≡ 0) × (result.count ≡ 0) }
+    {
+        Filling {
+            bytes: [0; 1100],
+            length: 0,
+            count: 0,
+        }
     }
-}
 
-// Appends one byte.
-pub(crate) fn push(old: Filling, byte: u8) -> Filling
-    requires { old.length < 1100 }
-    ensures { (filled_bytes result ≡ filled_bytes old ++ (byte ∷ [])) × (result.length ≡ old.length + 1) × (result.count ≡ old.count) }
-{
-    let n = old.length;
-    let count = old.count;
-    let mut bytes = old.bytes;
-    bytes[n] = byte;
-    Filling {
-        bytes,
-        length: n + 1,
-        count,
+    // Appends the bytes of s, and adds 1 to `count`.
+    pub(crate) fn append(&mut self, s: &[u8])
+        requires { (self.old.length + length s.now ≤ 1100) × (self.old.count < 14) }
+        ensures { (filled_bytes self.new ≡ filled_bytes self.old ++ s.now)
+            × (self.new.length ≡ self.old.length + length s.now) × (self.new.count ≡ self.old.count + 1) }
+    {
+        let end = self.length + s.len();
+        self.bytes[self.length..end].copy_from_slice(s);
+        self.length = end;
+        self.count += 1;
     }
-}
 
-// Appends what stands for one byte of the template: the next value for a 0, and the byte itself otherwise.
-fn fill_step(old: Filling, byte: u8, s: &[u8], values: Match) -> Filling
-    requires { Fits s.now values × (old.count + placeholders_in (byte ∷ []) ≤ values.count)
-        × (old.length + 1 + 60 * placeholders_in (byte ∷ []) ≤ 1100) }
-    ensures { FillStep s.now values byte old result }
-{
-    let starts = values.starts;
-    let ends = values.ends;
-    let k = old.count;
-    if byte == 0 {
-        let from = starts[k];
-        let to = ends[k];
-        append(old, &s[from..to])
-    } else {
-        push(old, byte)
+    // Appends one byte.
+    pub(crate) fn push(&mut self, byte: u8)
+        requires { self.old.length < 1100 }
+        ensures { (filled_bytes self.new ≡ filled_bytes self.old ++ (byte ∷ []))
+            × (self.new.length ≡ self.old.length + 1) × (self.new.count ≡ self.old.count) }
+    {
+        self.bytes[self.length] = byte;
+        self.length += 1;
+    }
+
+    // Appends what stands for one byte of the template: the next value for a 0, and the byte itself otherwise.
+    fn fill_step(&mut self, byte: u8, s: &[u8], values: Match)
+        requires { Fits s.now values × (self.old.count + placeholders_in (byte ∷ []) ≤ values.count)
+            × (self.old.length + 1 + 60 * placeholders_in (byte ∷ []) ≤ 1100) }
+        ensures { FillStep s.now values byte self.old self.new }
+    {
+        if byte == 0 {
+            self.append(values.value(s, self.count));
+        } else {
+            self.push(byte);
+        }
     }
 }
 
@@ -72,13 +70,9 @@ pub(crate) fn fill(template: &[u8], s: &[u8], values: Match) -> Filling
         × (length template.now + 60 * placeholders_in template.now ≤ 1100) }
     ensures { (filled_bytes result ≡ filled template.now (matched_values s.now values)) × (result.length ≤ 1100) }
 {
-    let mut done = Filling {
-        bytes: [0; 1100],
-        length: 0,
-        count: 0,
-    };
+    let mut done = Filling::new();
     for &byte in template {
-        done = fill_step(done, byte, s, values);
+        done.fill_step(byte, s, values);
     }
     done
 }

@@ -1,18 +1,33 @@
 // Finds the values in bytes that follow a template. A template is bytes in which each 0 stands for a value. An LF follows
 // each 0, so a value ends at the next LF.
-ghost use Rattle.std.specs.Prelude.{◌≡◌, ◌+◌, ◌≤◌, ◌<◌, length, drop};
-ghost use Rattle.orbit_message.specs.Templates.{placeholders_in, after_line};
-ghost use Rattle.orbit_message.specs.Matches.{Advance, IsMatch};
+ghost use Rattle.std.specs.Prelude.{◌≡◌, List, ◌∷◌, ℕ, ◌+◌, ◌≤◌, ◌<◌, length, drop, None, MatchOption};
+ghost use Rattle.orbit_message.specs.Templates.{placeholders_in, after_line, values_in};
+ghost use Rattle.orbit_message.specs.Matches.{matched_value, progress, Inside, Advance, IsMatch};
 
-// How far bytes follow a template: whether they do, the offset reached, and the values found, each
-// given by the offsets at which it starts and ends.
+// The offsets at which a value starts and ends.
+#[derive(Clone, Copy)]
+pub(crate) struct Span {
+    pub start: usize,
+    pub end: usize,
+}
+
+// How far bytes follow a template: the offset reached, and the first `count` spans, which are the values found.
 #[derive(Clone, Copy)]
 pub(crate) struct Match {
-    pub matches: bool,
     pub at: usize,
     pub count: usize,
-    pub starts: [usize; 14],
-    pub ends: [usize; 14],
+    pub spans: [Span; 14],
+}
+
+impl Match {
+    // Returns the bytes of the value k.
+    pub(crate) fn value<'a>(&self, s: &'a [u8], k: usize) -> &'a [u8]
+        requires { Inside s.now self.now × (k < self.now.count) × (k < 14) }
+        ensures { result.now ≡ matched_value s.now self.now k }
+    {
+        let span = self.spans[k];
+        &s[span.start..span.end]
+    }
 }
 
 // Returns the offset of the first LF from `from` on, or the length if there is none.
@@ -26,68 +41,43 @@ fn line_end(s: &[u8], from: usize) -> usize
     }
 }
 
-// Returns the match after one more byte of the template.
-fn advance(s: &[u8], byte: u8, old: Match) -> Match
+// Returns the match after one more byte of the template, or `None` if the bytes do not follow it.
+fn advance(s: &[u8], byte: u8, old: Match) -> Option<Match>
     requires { (old.at ≤ length s.now) × (byte ≡ 0 → old.count < 14) }
-    ensures { Advance s.now byte old result }
+    ensures { MatchOption result ((t : List ℕ) → progress (byte ∷ t) s.now old ≡ None) (Advance s.now byte old) }
 {
-    let at = old.at;
-    let k = old.count;
-    let mut starts = old.starts;
-    let mut ends = old.ends;
     if byte == 0 {
-        let end = line_end(s, at);
-        starts[k] = at;
-        ends[k] = end;
-        return Match {
-            matches: old.matches,
+        let end = line_end(s, old.at);
+        let mut spans = old.spans;
+        spans[old.count] = Span { start: old.at, end };
+        return Some(Match {
             at: end,
-            count: k + 1,
-            starts,
-            ends,
-        };
+            count: old.count + 1,
+            spans,
+        });
     }
-    if at < s.len() {
-        Match {
-            matches: old.matches & (s[at] == byte),
-            at: at + 1,
-            count: k,
-            starts,
-            ends,
-        }
+    if old.at < s.len() && s[old.at] == byte {
+        Some(Match {
+            at: old.at + 1,
+            ..old
+        })
     } else {
-        Match {
-            matches: false,
-            at,
-            count: k,
-            starts,
-            ends,
-        }
+        None
     }
 }
 
-// Finds the values in bytes that follow a template of at most fourteen placeholders.
-pub(crate) fn find_values(template: &[u8], s: &[u8]) -> Match
+// Finds the values in bytes that follow a template of at most fourteen placeholders. Returns `None` if the bytes do not follow it.
+pub(crate) fn find_values(template: &[u8], s: &[u8]) -> Option<Match>
     requires { placeholders_in template.now ≤ 14 }
-    ensures { IsMatch template.now s.now result }
+    ensures { MatchOption result (values_in template.now s.now ≡ None) (IsMatch template.now s.now) }
 {
     let mut done = Match {
-        matches: true,
         at: 0,
         count: 0,
-        starts: [0; 14],
-        ends: [0; 14],
+        spans: [Span { start: 0, end: 0 }; 14],
     };
     for &byte in template {
-        done = advance(s, byte, done);
+        done = advance(s, byte, done)?;
     }
-    let starts = done.starts;
-    let ends = done.ends;
-    Match {
-        matches: done.matches & (done.at == s.len()),
-        at: done.at,
-        count: done.count,
-        starts,
-        ends,
-    }
+    if done.at == s.len() { Some(done) } else { None }
 }

@@ -7,7 +7,7 @@ ghost use Rattle.orbit_message.specs.Messages.{template, message_of};
 ghost use Rattle.orbit_message.specs.Fillings.{filled_bytes};
 ghost use Rattle.orbit_message.specs.States.{vector_numbers, state_numbers, lines_of, Lined};
 
-use crate::filling::{Filling, append, fill, push};
+use crate::filling::{Filling, fill};
 use crate::matching::find_values;
 use crate::states::{DecimalVector, State};
 use decimal::Decimal;
@@ -32,26 +32,28 @@ pub(crate) const TEMPLATE: [u8; 188] = *b"CCSDS_OPM_VERS = 2.0\n\
 // The template of fourteen lines, one for each value of a message.
 const FOURTEEN_LINES: [u8; 28] = *b"\0\n\0\n\0\n\0\n\0\n\0\n\0\n\0\n\0\n\0\n\0\n\0\n\0\n\0\n";
 
-// Appends the text of a decimal and an LF.
-fn append_number(old: Filling, d: Decimal) -> Filling
-    requires { (old.length ≤ 1000) × (old.count < 14) }
-    ensures { (filled_bytes result ≡ filled_bytes old ++ (text_of d ++ (10 ∷ [])))
-        × (result.length ≤ old.length + 19) × (result.count ≡ old.count + 1) }
-{
-    let text = decimal::text_of(d);
-    push(append(old, &text.bytes[..text.length]), b'\n')
-}
+impl Filling {
+    // Appends the text of a decimal and an LF.
+    fn append_number(&mut self, d: Decimal)
+        requires { (self.old.length ≤ 1000) × (self.old.count < 14) }
+        ensures { (filled_bytes self.new ≡ filled_bytes self.old ++ (text_of d ++ (10 ∷ [])))
+            × (self.new.length ≤ self.old.length + 19) × (self.new.count ≡ self.old.count + 1) }
+    {
+        let text = decimal::text_of(d);
+        self.append(&text.bytes[..text.length]);
+        self.push(b'\n');
+    }
 
-// Appends a line for each component.
-fn append_vector(old: Filling, v: DecimalVector) -> Filling
-    requires { (old.length ≤ 900) × (old.count < 12) }
-    ensures { (filled_bytes result ≡ filled_bytes old ++ lines_of (map text_of (vector_numbers v)))
-        × (result.length ≤ old.length + 57) × (result.count ≡ old.count + 3) }
-{
-    let x = v.x;
-    let y = v.y;
-    let z = v.z;
-    append_number(append_number(append_number(old, x), y), z)
+    // Appends a line for each component.
+    fn append_vector(&mut self, v: DecimalVector)
+        requires { (self.old.length ≤ 900) × (self.old.count < 12) }
+        ensures { (filled_bytes self.new ≡ filled_bytes self.old ++ lines_of (map text_of (vector_numbers v)))
+            × (self.new.length ≤ self.old.length + 57) × (self.new.count ≡ self.old.count + 3) }
+    {
+        self.append_number(v.x);
+        self.append_number(v.y);
+        self.append_number(v.z);
+    }
 }
 
 // Returns the fourteen values of a message, a line for each: the lines of the texts, and a line for each number.
@@ -60,15 +62,11 @@ fn value_lines(texts: &[u8], state: State) -> Filling
     ensures { (filled_bytes result ≡ texts.now ++ lines_of (map text_of (state_numbers state)))
         × (result.length ≤ length texts.now + 114) }
 {
-    let empty = Filling {
-        bytes: [0; 1100],
-        length: 0,
-        count: 0,
-    };
-    let position = state.position;
-    let velocity = state.velocity;
-    let all_texts = append(empty, texts);
-    append_vector(append_vector(all_texts, position), velocity)
+    let mut lines = Filling::new();
+    lines.append(texts);
+    lines.append_vector(state.position);
+    lines.append_vector(state.velocity);
+    lines
 }
 
 // Returns the message whose fourteen values are the lines of s.
@@ -79,8 +77,11 @@ fn fill_message(s: &[u8]) -> Filling
 {
     let lines = FOURTEEN_LINES;
     let template = TEMPLATE;
-    let values = find_values(&lines, s);
-    fill(&template, s, values)
+    match find_values(&lines, s) {
+        Some(values) => fill(&template, s, values),
+        // `s` is fourteen lines, so it follows their template.
+        None => unreachable!(),
+    }
 }
 
 // Returns the message of eight legal texts and a state.

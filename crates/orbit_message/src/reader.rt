@@ -14,10 +14,7 @@ pub fn read(s: &[u8]) -> Result<State, Refusal>
     ensures { result ≡ read_of s.now }
 {
     let template = TEMPLATE;
-    let found = find_values(&template, s);
-    if !found.matches {
-        return Err(Refusal::NotAMessage);
-    }
+    let found = find_values(&template, s).ok_or(Refusal::NotAMessage)?;
     if !are_legal(s, found) {
         return Err(Refusal::NotAMessage);
     }

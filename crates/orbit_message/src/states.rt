@@ -28,11 +28,7 @@ fn decimal_at(s: &[u8], found: Match, k: usize) -> Option<Decimal>
     requires { Inside s.now found × (found.count ≡ 14) × (k < 14) }
     ensures { result ≡ parse_of (matched_value s.now found k) }
 {
-    let starts = found.starts;
-    let ends = found.ends;
-    let from = starts[k];
-    let to = ends[k];
-    decimal::parse(&s[from..to])
+    decimal::parse(found.value(s, k))
 }
 
 // Returns the vector that three values show, from the value k on, or `None` if one of them is not the text of a decimal.

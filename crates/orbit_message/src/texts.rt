@@ -34,17 +34,9 @@ fn is_legal(s: &[u8]) -> bool
 // Reports whether the first eight values of a match are legal texts.
 pub(crate) fn are_legal(s: &[u8], found: Match) -> bool
     requires { Inside s.now found × (8 ≤ found.count) }
-    ensures { result ≡ every is_legal (values_between s.now found.starts found.ends 8) }
+    ensures { result ≡ every is_legal (values_between s.now found.spans 8) }
 {
-    let starts = found.starts;
-    let ends = found.ends;
-    let mut all = true;
-    for k in 0..8 {
-        let from = starts[k];
-        let to = ends[k];
-        all &= is_legal(&s[from..to]);
-    }
-    all
+    (0..8).all(|k| is_legal(found.value(s, k)))
 }
 
 // Reports whether the bytes are eight legal texts, each on a line of its own.
@@ -52,9 +44,8 @@ pub(crate) fn are_texts(s: &[u8]) -> bool
     ensures { result ≡ are_texts (texts_in s.now) }
 {
     let template = EIGHT_LINES;
-    let found = find_values(&template, s);
-    if !found.matches {
-        return false;
+    match find_values(&template, s) {
+        Some(found) => are_legal(s, found),
+        None => false,
     }
-    are_legal(s, found)
 }

@@ -3,8 +3,8 @@ use native.Mathlib.Omega.{arith}
 use Rattle.orbit_message.proofs.FillSteps.{next_byte, filled_next, filled_at_end}
 use Rattle.orbit_message.proofs.filling.fill.Goals as goal
 
-pub fill_step-done-requires : goal.fill_step-done-requires
-fill_step-done-requires c =
+pub fill_step-requires : goal.fill_step-requires
+fill_step-requires c =
     let l = c.loop-byte in
     let test = c.loop-byte-test.true in
     let placeholders = (next_byte c.args.template.now l.byte-index test).placeholders in
@@ -17,8 +17,8 @@ loop-byte-preserved c =
     let t = a.template.now in
     let test = c.loop-byte-test.true in
     let placeholders = (next_byte t l.byte-index test).placeholders in
-    let e = c.fill_step-done.ensures in
-    let same = filled_next t a.s.now a.values l.byte-index l.done c.fill_step-done.result test e l.invariant.3 in
+    let e = c.fill_step.ensures in
+    let same = filled_next t a.s.now a.values l.byte-index l.done c.fill_step.new.self test e l.invariant.3 in
     (omega arith, omega (arith, placeholders, l.invariant.1, e.counted), omega (arith, placeholders, l.invariant.2, e.bounded, test), same)
 
 pub returns : goal.returns
