@@ -7,7 +7,8 @@ ghost use Rattle.board.specs.Board.{posted_number, post_of};
 
 use board::post;
 
-// Posts a record as `post` does. Returns the number of the refusal, 0 to 3, or 255 if the record was taken.
+// Posts a record as `post` does. C has no `Result`, so the function returns the number of the refusal, 0 to 3, or 255 if the record was
+// taken.
 #[unsafe(no_mangle)]
 pub extern "C" fn lambert_post(board: &mut [u8], message: &[u8]) -> u8
     ensures result { result ≡ posted_number (post_of board.old message.now).posted }

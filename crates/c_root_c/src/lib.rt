@@ -1,4 +1,5 @@
 // The C interface to the square roots: each function calls the one of `c_root` with its name, and promises the same.
+// They stand apart because no crate can use a static library.
 #![tactic(auto)]
 
 ghost use Rattle.std.specs.Prelude.{◌≡◌};

@@ -1,5 +1,6 @@
 // The C interface to the solver, for hosts in other languages: each function calls the one of `c_solver` with its name, and promises the
-// same. A slice is a pointer and a length. The memory of a question and of a buffer must not overlap.
+// same. A slice is a pointer and a length. The memory of a question and of a buffer must not overlap. They
+// stand apart because no crate can use a static library.
 #![tactic(auto)]
 
 ghost use Rattle.std.specs.Prelude.{◌≡◌};

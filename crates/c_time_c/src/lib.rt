@@ -1,5 +1,5 @@
 // The C interface to the time at a place and to the sweep: each function calls the one of `c_time` with its name, and promises the same.
-// Every f64 is passed and returned as its 64 bits.
+// Every f64 is passed and returned as its 64 bits. They stand apart because no crate can use a static library.
 #![tactic(auto)]
 
 ghost use Rattle.std.specs.Prelude.{◌≡◌};

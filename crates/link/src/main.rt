@@ -113,7 +113,7 @@ fn cannot_read(rt: &impl Eprint, error: io::Error) -> Stopped {
 
 // Passes in a piece, and passes in again the bytes that a call did not take. Each call takes at least one byte while some are left and no
 // reset is needed, so one call more than the piece has bytes is enough. Unless reading stops, the reader is then the one after the whole
-// piece.
+// piece. The program `test_link` has a loop like this one, but it writes what each call gives.
 fn feed(
     rt: &impl Eprint,
     output: &mut impl Write,

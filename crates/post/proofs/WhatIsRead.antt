@@ -24,7 +24,7 @@ pub rest_read : (input left : Option (List ℕ)) (bytes part : List ℕ) (n rest
 rest_read None left bytes part n rest more k next board after fits within size taken posts = tt
 rest_read (Some xs) left bytes part n rest more k next board after fits within size taken posts =
     let P : ℕ → Type 0 = λ s. (take more part ≡ take s xs) × (left ≡ Some (drop s xs)) in
-    let first = subst P size taken in
+    let first = subst P size taken.0 in
     let message = sym (joined n k more bytes part fits within) ∙ ap (λ l. take n bytes ++ l) first.0 in
     (first.1, posts ∙ ap (λ m. (post_of board m).board) message)
 
@@ -49,7 +49,7 @@ pub record_read : (input mid left : Option (List ℕ)) (bytes part : List ℕ) (
 record_read None mid left bytes part n k next board after within size taken read = tt
 record_read (Some xs) mid left bytes part n k next board after within size taken read =
     let P : ℕ → Type 0 = λ s. (take n part ≡ take s xs) × (mid ≡ Some (drop s xs)) in
-    let first = subst P size taken in
+    let first = subst P size taken.0 in
     let head : take n (put_mid 0 k bytes part) ≡ take LENGTH.width xs =
     ap (λ i. take i (put_mid 0 k bytes part)) (omega arith) ∙ sym (joined 0 k n bytes part (omega arith) within) ∙ first.0 in
     let Q : Option (List ℕ) → List ℕ → Type 0 = λ m h. IfSome m (λ ys. HeadRead (start_of h) h ys left board after next) in

@@ -12,7 +12,7 @@ use solver::{Cause, solve};
 use sweep::VoidStation;
 
 // Writes the record of a question at the start of the buffer and returns its size. If the buffer has no room for the longest answer, it
-// stays untouched and the size is 0.
+// stays untouched and the size is 0, as the C function `lambert_record` promises it.
 pub fn write_record(question: &[u8], out: &mut [u8]) -> usize
     ensures size { result ≡ (output_of question.now out.old).size }
     ensures buffer { out.new ≡ (output_of question.now out.old).buffer }

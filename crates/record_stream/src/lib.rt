@@ -18,6 +18,7 @@ const LONGEST_REST: usize = ANSWER_ROOM - LENGTH_SIZE;
 // - `Record`: a record, with the number of bytes that its length field says follow. The input may end before them. The
 //   number is 0 if the input ends within the length field.
 // - `NoRecord`: a length above that of the longest record, so nothing tells where the next record starts.
+// The three have names: as a Result of an Option, the end of the input and a record would be `Ok(None)` and `Ok(Some)`.
 #[derive(Clone, Copy)]
 pub enum Start {
     End,

@@ -52,6 +52,7 @@ pub fn fill<R: Read>(input: &mut R, buffer: &mut [u8]) -> io::Result<usize>
 }
 
 // Reads the next frame of N bytes. Returns None at the end of the input, and also if this end cuts the frame short.
+// The loop over the frames stays in each program: a closure whose parameter is an array of a const size is outside of the prover.
 pub fn next_frame<const N: usize, R: Read>(input: &mut R) -> io::Result<Option<[u8; N]>>
     ensures { IfSome (R.remaining input.old) (λ xs. FrameTaken N xs (R.remaining input.new) result) }
 {

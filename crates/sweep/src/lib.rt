@@ -40,6 +40,7 @@ pub fn find_crossings(search: Search) -> Crossings
     let mut count: usize = 0;
     let mut seen = Walk::AllTimed;
     let mut low = Side::Unknown(Reason::OutsideRange); // A station before the first would be outside the range.
+    // The loop counts i by hand. A `for` would need a flag for the ninth crossing, because i is not known after it. 01 asks for the label.
     let mut i: u16 = 0;
     'stations: while i <= last {
         let high = side_of_station(search, i);

@@ -21,6 +21,7 @@ fn print_float(rt: &impl Print, x: f64) -> io::Result<()> {
     print_word(rt, float64::to_bits(x))
 }
 
+// `test_velocity` prints a vector in another form. A crate for these lines would be longer than they are.
 fn print_vector(rt: &impl Print, v: Vector) -> io::Result<()> {
     print_float(rt, v.x)?;
     print_float(rt, v.y)?;
