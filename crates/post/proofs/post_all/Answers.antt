@@ -1,5 +1,5 @@
 -- `post_all` meets its contract: each round posts at most one more record.
-use Rattle.std.proofs.Common.{◌≡◌, ℕ, List, [], ◌∷◌, ◌++◌, take, Option, Some, None, Ok, Err, sym, refl, ap, ◌∙◌, subst, rules}
+use Rattle.std.proofs.Common.{◌≡◌, ℕ, List, [], ◌∷◌, ◌++◌, take, Some, None, Ok, Err, sym, refl, ap, ◌∙◌, subst, rules}
 use Rattle.board.specs.Board.{post_of}
 use Rattle.board.specs.Posting.{post_all}
 use Rattle.record_stream.specs.declared.Start.{Start}
