@@ -1,5 +1,5 @@
 // Fills a template with values.
-ghost use Rattle.std.specs.Prelude.{◌≡◌, [], ◌∷◌, ◌++◌, ◌+◌, ◌-◌, ◌*◌, ◌≤◌, ◌<◌, length};
+ghost use Rattle.std.specs.Prelude.{◌≡◌, [], ◌∷◌, ◌++◌, ◌+◌, ◌*◌, ◌≤◌, ◌<◌, length};
 ghost use Rattle.orbit_message.specs.Templates.{filled, placeholders_in};
 ghost use Rattle.orbit_message.specs.Matches.{matched_values};
 ghost use Rattle.orbit_message.specs.Fillings.{Fits, filled_bytes, FillStep};

@@ -1,6 +1,6 @@
 // Finds the values in bytes that follow a template. A template is bytes in which each 0 stands for a value. An LF follows
 // each 0, so a value ends at the next LF.
-ghost use Rattle.std.specs.Prelude.{◌≡◌, List, ◌∷◌, ℕ, ◌+◌, ◌≤◌, ◌<◌, length, drop, None, MatchOption};
+ghost use Rattle.std.specs.Prelude.{◌≡◌, List, ◌∷◌, ℕ, ◌≤◌, ◌<◌, length, drop, None, MatchOption};
 ghost use Rattle.orbit_message.specs.Templates.{placeholders_in, after_line, values_in};
 ghost use Rattle.orbit_message.specs.Matches.{matched_value, progress, Inside, Advance, IsMatch};
 
