@@ -3,9 +3,9 @@
 -- every byte of the board after the call, and what it holds. `clash_is` and `void_is` say that the definitions give the bytes of the
 -- conflict and of the refusal 12. One refusal 12 of the shorter form (`short_12_refused`) and one refusal 11 of the longer form
 -- (`long_11_refused`) are refused with B1 by every board, which keeps its bytes. The bytes that hold this short refusal 12 alone are not a
--- board: every post to them is refused with B0 (`short_12_held`). For refusals with any other bytes see `RefusalSizes` of `record_laws`. A
--- board is too long to compute with, so `next_board` computes with what it holds.
-use mathlib.Core.Path.{◌≡◌, refl, ◌∙◌}
+-- board: every post to them is refused with B0 (`short_12_held`). These three also give the number of the refusal. For refusals with any
+-- other bytes see `RefusalSizes` of `record_laws`. A board is too long to compute with, so `next_board` computes with what it holds.
+use mathlib.Core.Path.{◌≡◌, refl, ap, ◌∙◌}
 use mathlib.Core.Bool.{Bool, true, false, ◌&&◌, and-false}
 use mathlib.Core.List.{List, [], ◌∷◌, ◌++◌, append_assoc}
 use Prim.Native.Nat.{ℕ, zero, suc, ◌+◌, ◌-◌, ◌*◌, ◌≤◌}
@@ -23,7 +23,7 @@ use Rattle.slots.proofs.Padding.{padded_is}
 use Rattle.slots.proofs.Zeros.{both}
 use Rattle.board.specs.declared.PostError.TheVariants.{NotABoard, Malformed}
 use Rattle.board.specs.Board.{SLOTS, board_size, in_order, is_board, held_on, board_of, empty_board, joined, placed}
-use Rattle.board.specs.Board.{board_refusal, taken_with, placed_on, post_of}
+use Rattle.board.specs.Board.{PostResult, board_refusal, taken_with, placed_on, post_of, posted_number}
 use Rattle.arrival_laws.specs.Messages.{Postable}
 use Rattle.board.proofs.Boards.{zeros, slots_in, slots_next, slots_none}
 use Rattle.arrival_laws.proofs.Posting.{judged, taken_board, starts_board}
@@ -146,15 +146,20 @@ void_taken =
     rw (← board_alone worked (omega arith), ← board_two worked void (omega arith) (omega arith))
     (both_sizes.given, both_sizes.holding.these)
 
-malformed : (b new : List ℕ) → is_board b ≡ true → is_outcome new ≡ false → post_of b new ≡ board_refusal Malformed b
+malformed : (b new : List ℕ) → is_board b ≡ true → is_outcome new ≡ false
+    → (post_of b new ≡ board_refusal Malformed b) × (posted_number (post_of b new).posted ≡ 1)
 unfolding post_of
-malformed b new board fault = rw (board, fault)
+malformed b new board fault =
+    let refused : post_of b new ≡ board_refusal Malformed b = rw (board, fault) in
+    (refused, ap (λ (o : PostResult). posted_number o.posted) refused)
 
-pub short_12_refused : (b : List ℕ) → is_board b ≡ true → post_of b short_12 ≡ board_refusal Malformed b
+pub short_12_refused : (b : List ℕ) → is_board b ≡ true
+    → (post_of b short_12 ≡ board_refusal Malformed b) × (posted_number (post_of b short_12).posted ≡ 1)
 unfolding is_outcome is_refusal is_answer is_sized number_at
 short_12_refused b board = malformed b short_12 board refl
 
-pub long_11_refused : (b : List ℕ) → is_board b ≡ true → post_of b long_11 ≡ board_refusal Malformed b
+pub long_11_refused : (b : List ℕ) → is_board b ≡ true
+    → (post_of b long_11 ≡ board_refusal Malformed b) × (posted_number (post_of b long_11).posted ≡ 1)
 unfolding is_outcome is_refusal is_answer is_sized number_at
 long_11_refused b board = malformed b long_11 board refl
 
@@ -162,6 +167,9 @@ not_filled : in_order SLOTS 0 (alone short_12) ≡ false
 unfolding in_order is_zero is_filled is_held is_conflict is_outcome is_refusal is_answer is_sized content_of number_at alone
 not_filled = refl
 
-pub short_12_held : (new : List ℕ) → post_of (alone short_12) new ≡ board_refusal NotABoard (alone short_12)
+pub short_12_held : (new : List ℕ) → (post_of (alone short_12) new ≡ board_refusal NotABoard (alone short_12))
+    × (posted_number (post_of (alone short_12) new).posted ≡ 0)
 unfolding post_of is_board
-short_12_held new = rw (not_filled, and-false)
+short_12_held new =
+    let refused : post_of (alone short_12) new ≡ board_refusal NotABoard (alone short_12) = rw (not_filled, and-false) in
+    (refused, ap (λ (o : PostResult). posted_number o.posted) refused)

@@ -1,8 +1,9 @@
--- The cases of `post_of` for one record (`posting`): the refusals in their order, and a record that is taken. A refusal
--- changes nothing (`unchanged`). B3 is given exactly for a postable record of a new job on a full board
--- (`full_exactly`). A record that is older than the held one, or the same, changes nothing (`older_or_same`). Posting
--- any record a second time changes nothing (`twice`) and has the same result (`twice_result`). From the empty board
--- on, the bytes stay a board whatever is posted (`always_board`), so B0 is never given (`never_b0`).
+-- The cases of `post_of` for one record (`posting`): the refusals in their order, and a record that is taken. The same
+-- cases by the numbers that a caller sees (`numbered`). A refusal changes nothing (`unchanged`). B3 is given exactly for
+-- a postable record of a new job on a full board (`full_exactly`, and by its name `none_free_exactly`). A record that is
+-- older than the held one, or the same, changes nothing (`older_or_same`). Posting any record a second time changes
+-- nothing (`twice`) and has the same result (`twice_result`). From the empty board on, the bytes stay a board whatever is
+-- posted (`always_board`), so B0 is never given (`never_b0`, and by its name `never_no_board`).
 use mathlib.Core.Path.{◌≡◌, refl, sym, ap, ◌∙◌}
 use mathlib.Core.Bool.{Bool, true, false, cond, not, true≢false}
 use mathlib.Core.List.Memᴰ.{head as here}
@@ -21,8 +22,9 @@ use Rattle.outcomes.specs.Outcomes.{is_outcome}
 use Rattle.board.specs.declared.PostError.{PostError}
 use Rattle.board.specs.declared.PostError.TheVariants.{NotABoard, Malformed, JobZero, NoSlotFree}
 use Rattle.board.specs.Board.{SLOTS, is_board, held_on, board_of, empty_board, joined, placed}
-use Rattle.board.specs.Board.{PostResult, board_refusal, taken_with, post_of, placed_on, none}
+use Rattle.board.specs.Board.{PostResult, board_refusal, taken_with, post_of, placed_on, posted_number, none}
 use Rattle.arrival_laws.specs.Messages.{◌∈◌, AllBytes, Postable, post_all, NoneOf}
+use Rattle.arrival_laws.specs.Numbers.{Numbered, b0, b1, b2, b3, no_refusal}
 use Rattle.slots.proofs.Held.{outcome_held}
 use Rattle.board.proofs.Boards.{board_held, held_board, empty_board_lem}
 use Rattle.arrival_laws.proofs.Joining.{joining, joined_kept}
@@ -58,6 +60,16 @@ module _ (b new : List ℕ) where
       by true e true f false g true h = full e (counted f g) (ltb-true SLOTS (length (placed (held_on b) new)) h)
       by true e true f false g false h = taken e (counted f g) (ltb-false SLOTS (length (placed (held_on b) new)) h)
 
+  pub numbered : Numbered b new (posted_number (post_of b new).posted)
+  numbered = by posting
+    where
+      by : {o : PostResult} → Posting b new o → Numbered b new (posted_number o.posted)
+      by (no_board f) = b0 f
+      by (malformed f g) = b1 f g
+      by (unnamed f g h) = b2 f g h
+      by (full f postable over) = b3 f postable over
+      by (taken f postable room) = no_refusal f postable room
+
   pub unchanged : (error : PostError) → (post_of b new).posted ≡ Err error → (post_of b new).board ≡ b
   unchanged error e = by posting e
     where
@@ -83,10 +95,10 @@ module _ (b new : List ℕ) where
       ⊎_elim (λ n. (omega (arith, n.1, held.1.0), n.0)) (λ s. absurd (omega (arith, s.1, held.1.0)))
       (grown (placing (held_on b) new) held.0)
 
-  pub full_exactly : ((post_of b new).posted ≡ Err NoSlotFree)
+  pub none_free_exactly : ((post_of b new).posted ≡ Err NoSlotFree)
       ↔ ((is_board b ≡ true) × (Postable new × ((length (held_on b) ≡ SLOTS) × NoneOf (job_of new) (held_on b))))
   unfolding placed_on
-  full_exactly = (
+  none_free_exactly = (
     by posting,
     λ h.
         let size : ℕ = length (placed (held_on b) new) in
@@ -103,6 +115,18 @@ module _ (b new : List ℕ) where
       by (unnamed f g h) e = cc
       by (full f postable over) e = (f, (postable, no_room f over))
       by (taken f postable room) e = cc
+
+  pub full_exactly : (posted_number (post_of b new).posted ≡ 3)
+      ↔ ((is_board b ≡ true) × (Postable new × ((length (held_on b) ≡ SLOTS) × NoneOf (job_of new) (held_on b))))
+  full_exactly = (by numbered, λ h. ap posted_number (none_free_exactly.1 h))
+    where
+      by : {n : ℕ} → Numbered b new n → n ≡ 3
+          → (is_board b ≡ true) × (Postable new × ((length (held_on b) ≡ SLOTS) × NoneOf (job_of new) (held_on b)))
+      by (b0 f) e = absurd (omega (arith, e))
+      by (b1 f g) e = absurd (omega (arith, e))
+      by (b2 f g h) e = absurd (omega (arith, e))
+      by (b3 f postable over) e = (f, (postable, no_room f over))
+      by (no_refusal f postable room) e = absurd (omega (arith, e))
 
   -- A record that does not change what is held for its job is taken, and the board stays as it was.
   pub taken_same : (held : List ℕ) → is_board b ≡ true → Postable new → held ∈ held_on b → job_of held ≡ job_of new → joined held new ≡ held
@@ -181,9 +205,10 @@ from b (m ∷ ms) f all = from (post_of b m).board ms (stays_board b m (all m (h
 pub always_board : (ms : List (List ℕ)) → AllBytes ms → is_board (post_all empty_board ms) ≡ true
 always_board ms all = from empty_board ms starts_board.0 all
 
--- After any messages on the empty board, no record is refused with B0.
-pub never_b0 : (ms : List (List ℕ)) (m : List ℕ) → AllBytes ms → (post_of (post_all empty_board ms) m).posted ≡ Err NotABoard → ⊥
-never_b0 ms m all e = by (posting (post_all empty_board ms) m) e
+-- After any messages on the empty board, no record is refused with B0: neither by its name nor by its number.
+pub never_no_board : (ms : List (List ℕ)) (m : List ℕ) → AllBytes ms
+    → (post_of (post_all empty_board ms) m).posted ≡ Err NotABoard → ⊥
+never_no_board ms m all e = by (posting (post_all empty_board ms) m) e
   where
     by : {o : PostResult} → Posting (post_all empty_board ms) m o → o.posted ≡ Err NotABoard → ⊥
     by (no_board f) e = true≢false (sym (always_board ms all) ∙ f)
@@ -191,3 +216,13 @@ never_b0 ms m all e = by (posting (post_all empty_board ms) m) e
     by (unnamed f g h) e = cc
     by (full f postable over) e = cc
     by (taken f postable room) e = cc
+
+pub never_b0 : (ms : List (List ℕ)) (m : List ℕ) → AllBytes ms → posted_number (post_of (post_all empty_board ms) m).posted ≡ 0 → ⊥
+never_b0 ms m all e = by (numbered (post_all empty_board ms) m) e
+  where
+    by : {n : ℕ} → Numbered (post_all empty_board ms) m n → n ≡ 0 → ⊥
+    by (b0 f) e = true≢false (sym (always_board ms all) ∙ f)
+    by (b1 f g) e = omega (arith, e)
+    by (b2 f g h) e = omega (arith, e)
+    by (b3 f postable over) e = omega (arith, e)
+    by (no_refusal f postable room) e = omega (arith, e)

@@ -20,6 +20,7 @@ use Rattle.orbit_message.specs.Messages.{keys, version, lines, message_of, templ
 use Rattle.orbit_message.specs.Reading.{vector_in, state_in, are_values, result_for, read_of}
 use Rattle.orbit_message.specs.States.{state_numbers}
 use Rattle.orbit_message.specs.declared.states.State.{State}
+use Rattle.orbit_message.specs.Refusals.{refusal_number}
 use Rattle.orbit_message.specs.declared.refusals.Refusal.{Refusal}
 use Rattle.orbit_message.specs.declared.refusals.Refusal.TheVariants.{NotAMessage}
 use Rattle.orbit_message.proofs.EveryElement.{both}
@@ -178,8 +179,11 @@ refused : (s : List ℕ) (r : Refusal) → read_of s ≡ Err r →
     (r ≡ NotAMessage) × ((ts : List (List ℕ)) (ns : List Decimal) → IsMessage s ts ns → ⊥)
 refused s r e = (only_refusal s r e, λ ts ns m. let is = (complete s ts ns m).1 in zero_is_one (cc))
 
+refused_number : (s : List ℕ) (r : Refusal) → read_of s ≡ Err r → refusal_number r ≡ 10
+refused_number s r e = ap refusal_number (only_refusal s r e)
+
 pub reads_exactly : (s : List ℕ) → ReadsExactly s
-reads_exactly s = record { accepted = accepted s; complete = complete s; refused = refused s }
+reads_exactly s = record { accepted = accepted s; complete = complete s; refused = refused s; number = refused_number s }
 
 -- ---- one set of texts and numbers
 

@@ -1,5 +1,5 @@
 -- `write` refuses exactly with the first condition that holds (`refuses_exactly`). The definition is a chain of conditions, so each field
--- is a case distinction over their five truth values.
+-- but the numbers is a case distinction over their five truth values.
 use mathlib.Core.Path.{◌≡◌, refl, sym, ap, ◌∙◌}
 use mathlib.Core.Bool.{Bool, true, false, cond, not, ◌||◌}
 use mathlib.Core.List.{List, [], ◌∷◌}
@@ -105,6 +105,7 @@ module _ (answer : List ℕ) (entry : ℕ) (r1 : Vector) (texts out : List ℕ) 
   refuses_exactly =
       let told = sym (ap (λ (r : WriteResult). r.result) is_chain) in
       record {
+        numbers_are = refl;
         result_is = is_chain ∙ first b1 b5 b6 b7 b8;
         refused = λ r e. refused b1 b5 b6 b7 b8 r (told ∙ e);
         written = λ n e. put_message b1 b5 b6 b7 b8 n (told ∙ e);

@@ -9,6 +9,7 @@ use Rattle.outcomes.specs.Outcomes.{is_between, is_outcome}
 use Rattle.orbit_message.specs.Texts.{every, texts_in, are_texts}
 use Rattle.orbit_message.specs.Messages.{message_of}
 use Rattle.orbit_message.specs.Writing.{components, departure_velocity, WriteResult, refusal, write_of}
+use Rattle.orbit_message.specs.Refusals.{refusal_number}
 use Rattle.orbit_message.specs.declared.refusals.Refusal.{Refusal}
 use Rattle.orbit_message.specs.declared.refusals.Refusal.TheVariants.{NotAnAnswer, IllegalTexts, NoSuchEntry}
 use Rattle.orbit_message.specs.declared.refusals.Refusal.TheVariants.{OutOfRange, SmallBuffer}
@@ -50,9 +51,10 @@ module _ (answer : List ℕ) (entry : ℕ) (r1 : Vector) (texts out : List ℕ) 
   result_of_first None = record { result = Ok (length message); buffer = message ++ drop (length message) out }
   result_of_first (Some r) = refusal r out
 
-  -- `write` returns a refusal exactly if its condition is the first that holds, and then the buffer is unchanged. If no condition holds,
-  -- and only then, it writes the message.
+  -- The numbers of the refusals in their order. `write` returns a refusal exactly if its condition is the first that holds, and then the
+  -- buffer is unchanged. If no condition holds, and only then, it writes the message.
   pub record RefusesExactly : Type 0 where
+    pub numbers_are : map (λ (c : Condition). refusal_number c.why) conditions ≡ 1 ∷ 5 ∷ 6 ∷ 7 ∷ 8 ∷ []
     pub result_is : write_of answer entry r1 texts out ≡ result_of_first (first_that_holds conditions)
     pub refused : (r : Refusal) → (write_of answer entry r1 texts out).result ≡ Err r → first_that_holds conditions ≡ Some r
     pub written : (n : ℕ) → (write_of answer entry r1 texts out).result ≡ Ok n → first_that_holds conditions ≡ None

@@ -1,6 +1,6 @@
 -- The record of every question is a well-formed outcome (`record_outcome`), so posting it is never refused with B1
--- (`never_malformed`). The proof splits on the four forms of a record.
-use mathlib.Core.Path.{◌≡◌}
+-- (`never_malformed`), which has the number 1 (`never_b1`). The proof splits on the four forms of a record.
+use mathlib.Core.Path.{◌≡◌, refl}
 use mathlib.Core.Bool.{Bool, true, false, cond, not}
 use mathlib.Core.List.{List}
 use Prim.Native.Nat.{ℕ}
@@ -13,8 +13,10 @@ use Rattle.records.specs.Records.{refusal_with}
 use Rattle.outcomes.specs.Outcomes.{is_outcome}
 use Rattle.outcomes.proofs.Written.{refusal_outcome, answer_outcome}
 use Rattle.board.specs.Board.{SLOTS, is_board, held_on, board_of, placed, board_refusal, taken_with, placed_on, post_of}
+use Rattle.board.specs.Board.{posted_number}
+use Rattle.board.specs.declared.PostError.{PostError}
 use Rattle.board.specs.declared.PostError.TheVariants.{NotABoard, Malformed, JobZero, NoSlotFree}
-use Rattle.std.specs.Prelude.{Err}
+use Rattle.std.specs.Prelude.{Result, Ok, Err}
 use Rattle.record_laws.specs.RecordForm.{RecordForm, malformed_question, refusal, void_refusal, answer}
 use Rattle.record_laws.proofs.Forms.{record_form}
 
@@ -50,3 +52,14 @@ unfolding post_of placed_on
 never_malformed b s e =
     let new = record_of s in
     not_b1 b new (is_board b) (is_outcome new) (record_outcome s) (eqb (job_of new) 0) (ltb SLOTS (length (placed (held_on b) new))) e
+
+-- The number 1 is that of B1 alone.
+number_1 : (posted : Result Unit PostError) → posted_number posted ≡ 1 → posted ≡ Err Malformed
+number_1 (Ok taken) e = absurd (omega (arith, e))
+number_1 (Err NotABoard) e = absurd (omega (arith, e))
+number_1 (Err Malformed) e = refl
+number_1 (Err JobZero) e = absurd (omega (arith, e))
+number_1 (Err NoSlotFree) e = absurd (omega (arith, e))
+
+pub never_b1 : (b s : List ℕ) → posted_number (post_of b (record_of s)).posted ≡ 1 → ⊥
+never_b1 b s e = never_malformed b s (number_1 (post_of b (record_of s)).posted e)
