@@ -141,12 +141,12 @@ module _ (s b : List ℕ) where
   by_entrance None = refl
   by_entrance (Some f) = refl
 
-  pub solve_is : solve_of s b ≡ given cause
+  solved_is : solve_of s b ≡ given cause
   unfolding solve_of judge_of
-  solve_is = by_entrance fault
+  solved_is = by_entrance fault
 
   outcome_is : (solve_of s b).outcome ≡ unless cause (length (entries_of p))
-  outcome_is = ap (λ (x : Solved). x.outcome) solve_is
+  outcome_is = ap (λ (x : Solved). x.outcome) solved_is
 
   -- ---- the number of an outcome is that of the first row that applies
   by_fault : (o : Option Fault) → first_in entrance ≡ number_or_0 fault_number o →
@@ -157,6 +157,11 @@ module _ (s b : List ℕ) where
 
   cause_number_is : number_or_0 cause_number cause ≡ N
   cause_number_is = by_fault fault (number_first fault_number (checks (length s) (length b) q g)) ∙ sym table_first
+
+  -- A call gives the refusal with this cause, or the answer, and the number of the cause is that of the first row of the whole table that
+  -- applies.
+  pub solve_is : (solve_of s b ≡ given cause) × (number_or_0 cause_number cause ≡ N)
+  solve_is = (solved_is, cause_number_is)
 
   number_is : outcome_number (solve_of s b).outcome ≡ N
   number_is = ap outcome_number outcome_is ∙ unless_number cause (length (entries_of p)) ∙ cause_number_is
@@ -169,7 +174,7 @@ module _ (s b : List ℕ) where
 
   -- ---- an answer
   when_answered : N ≡ 0 → solve_of s b ≡ given None
-  when_answered e = solve_is ∙ ap given (no_cause cause (cause_number_is ∙ e))
+  when_answered e = solved_is ∙ ap given (no_cause cause (cause_number_is ∙ e))
 
   answered_when : (n : ℕ) → (solve_of s b).outcome ≡ Ok n → (N ≡ 0) × (length (entries_of p) ≡ n)
   answered_when n e =
@@ -219,7 +224,7 @@ module _ (s b : List ℕ) where
             let never : 15 ≤ n → ⊥ = λ h. clash f.own (above 14 (table_of s (length b)) n to_fourteen h) in
             le_of_suc-le-suc (lt_of_not-le never);
         untouched = λ n r.
-            ap (λ (x : Solved). x.buffer) solve_is ∙ left_by cause (omega (arith, cause_number_is, refused_when n r, r.0));
+            ap (λ (x : Solved). x.buffer) solved_is ∙ left_by cause (omega (arith, cause_number_is, refused_when n r, r.0));
         zero = record { only = λ e. number_is ∙ (answered_when e.0 e.1).0; always = λ z. has_answer (sym number_is ∙ z) };
       }
 
