@@ -1,3 +1,4 @@
 pub mod Boards
 mod Checked
 mod Entered
+mod Moved

@@ -1,9 +1,10 @@
 // Puts a record into a board. If its job has a slot, that slot is changed. Otherwise the slots of later jobs are moved
 // up, and the record gets a new slot.
-ghost use Rattle.std.specs.Prelude.{◌≡◌, true, ◌≤◌};
+ghost use Rattle.std.specs.Prelude.{◌≡◌, true, ◌+◌, ◌≤◌, length};
+ghost use Rattle.records.specs.Layout.{answer_room};
 ghost use Rattle.slots.specs.Slots.{slot_of, content_of};
 ghost use Rattle.board.specs.Board.{SLOTS, is_board, joined, placed_on};
-ghost use Rattle.board.specs.Internals.{slots_below, route_of, changed};
+ghost use Rattle.board.specs.Internals.{slots_below, route_of, changed, moved_up};
 
 use crate::checks::{filled_slots, slots_from};
 use crate::{BOARD_SIZE, PostError, SLOTS};
@@ -36,7 +37,7 @@ pub(crate) fn place(board: &mut [u8; BOARD_SIZE], message: &[u8]) -> Result<(), 
         }
         Route::Enters(from, end) => {
             let to = from + ANSWER_ROOM;
-            board.copy_within(from..end, to);
+            move_up(board, from, end);
             slots::fill(&mut board[from..to], message);
             Ok(())
         }
@@ -117,5 +118,16 @@ fn join(slot: &mut [u8], message: &[u8])
         Change::Conflict => {
             slots::fill_conflict(slot, job_of(message), revision_of(message));
         }
+    }
+}
+
+// Moves the bytes `from..end` of the board up by one slot, from the last byte to the first. The library's `copy_within` is a call of
+// `memmove`, and the C interface of the board is to need no function from outside.
+fn move_up(board: &mut [u8; BOARD_SIZE], from: usize, end: usize)
+    requires { (from ≤ end) × (end + answer_room ≤ length board.old) }
+    ensures { board.new ≡ moved_up from end board.old }
+{
+    for i in (from..end).rev() {
+        board[i + ANSWER_ROOM] = board[i];
     }
 }

@@ -1,3 +1,4 @@
+pub mod Filling
 pub mod Padding
 pub mod Zeros
 pub mod Held

@@ -1,14 +1,11 @@
 -- Bytes padded with zeros up to a size (`padded`): how many they are (`padded_length`), the byte at each index
--- (`padded_at`), the zeros at the end if the bytes fit (`padded_is`) and if they may not (`padded_cut`), and the numbers
--- stored in them (`number_padded`).
+-- (`padded_at`), the zeros at the end if the bytes fit (`padded_is`), and the numbers stored in them (`number_padded`).
 use mathlib.Core.Path.{◌≡◌, refl, ap, ◌∙◌}
-use mathlib.Core.List.{List, [], ◌∷◌, ◌++◌, append-nil}
-use mathlib.Core.Logic.{⊎_elim}
-use Prim.Native.Nat.{ℕ, zero, suc, ◌+◌, ◌-◌, ◌≤◌, ◌<◌, min}
+use mathlib.Core.List.{List, [], ◌∷◌, ◌++◌}
+use Prim.Native.Nat.{ℕ, zero, suc, ◌+◌, ◌-◌, ◌≤◌, ◌<◌}
 use native.Mathlib.Omega.{arith}
 use lib.ListN.{length, get_or, take, replicate, length-append, length-replicate}
-use lib.Seq.{take-append-add, take-append-le, take_all, get_or-take, length-take-le}
-use Rattle.std.proofs.lemmas.Bool.{cases_lt}
+use lib.Seq.{take-append-add, get_or-take, length-take-le}
 use Rattle.std.proofs.lemmas.List.{take-replicate}
 use Rattle.little_endian.specs.Bytes.{number_at}
 use Rattle.little_endian.proofs.Same.{number_same}
@@ -36,21 +33,6 @@ padded_is n c h =
     let e : n ≡ length c + (n - length c) = omega arith in
     ap (λ (k : ℕ). take k (c ++ replicate n 0)) e ∙ take-append-add c (replicate n 0) (n - length c)
     ∙ ap (λ (l : List ℕ). c ++ l) (take-replicate (n - length c) n 0 (omega arith))
-
-pub padded_cut : (n : ℕ) (c : List ℕ) → padded n c ≡ take (min (length c) n) c ++ replicate (n - min (length c) n) 0
-unfolding padded
-padded_cut n c = ⊎_elim longer shorter (cases_lt n (length c))
-  where
-    longer : n < length c → take n (c ++ replicate n 0) ≡ take (min (length c) n) c ++ replicate (n - min (length c) n) 0
-    longer h =
-        let size : min (length c) n ≡ n = omega arith in
-        let none : n - n ≡ 0 = omega arith in
-        rw (size, none, append-nil) (take-append-le n c (replicate n 0) (omega arith))
-
-    shorter : length c ≤ n → take n (c ++ replicate n 0) ≡ take (min (length c) n) c ++ replicate (n - min (length c) n) 0
-    shorter h =
-        let size : min (length c) n ≡ length c = omega arith in
-        rw (size, take_all (length c) c (omega arith)) (padded_is n c h)
 
 -- ---- numbers in padded bytes
 

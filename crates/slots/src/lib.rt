@@ -38,13 +38,14 @@ fn is_conflict(s: &[u8]) -> bool
     (kind_of(s) == CONFLICT_KIND) & outcomes::is_sized(s, CONFLICT_SIZE)
 }
 
-// Fills a slot with the given bytes and with zeros after them. Bytes beyond the end of the slot are left out.
+// Fills a slot with the given bytes and with zeros after them. Bytes beyond the end of the slot are left out. The library's
+// `copy_from_slice` and `fill` are calls of `memmove` and `memset`, and the C interface of the board is to need no function from outside.
 pub fn fill(slot: &mut [u8], bytes: &[u8])
     ensures { slot.new ≡ padded (length slot.old) bytes.now }
 {
-    let size = bytes.len().min(slot.len());
-    slot[..size].copy_from_slice(&bytes[..size]);
-    slot[size..].fill(0);
+    for i in 0..slot.len() {
+        slot[i] = bytes.get(i).copied().unwrap_or(0);
+    }
 }
 
 // Fills a slot, as `fill` does, with the conflict of the given job at the given revision.

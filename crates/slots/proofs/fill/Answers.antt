@@ -1,35 +1,32 @@
--- `fill` meets its contract. Its two writes leave the bytes that fit and then zeros, which is what `padded_cut` says.
-use Rattle.std.proofs.Common.{◌≡◌, ℕ, ◌-◌, ◌≤◌, min, List, [], ◌++◌, length, take, drop, replicate, sym, ap, ◌∙◌, arith, append-nil}
-use Rattle.std.proofs.Math.ListN.{drop_of_length-le, length-append, length-take, length-drop}
-use borrow.Rule.Slice.PartMut.{put_mid}
-use lib.Seq.{take_at, drop_at, length-take-le}
-use Rattle.slots.proofs.Padding.{padded_cut}
+-- `fill` meets its contract. The loop invariant: the slot keeps its length, and its first i bytes are the first i of
+-- the padded bytes.
+use mathlib.Core.Path.{◌≡◌, refl, sym, ◌∙◌}
+use native.Mathlib.Omega.{arith}
+use Rattle.std.proofs.Common.{rules}
+use lib.ListN.{length, get_or, length-set}
+use lib.Seq.{take_all}
+use Rattle.slots.specs.Slots.{padded}
+use Rattle.slots.proofs.Padding.{padded_length}
+use Rattle.slots.proofs.Filling.{fill_next}
 use Rattle.slots.proofs.fill.Goals as goal
 
-module _ (size : ℕ) (front slot : List ℕ) (long : length front ≡ size) where
-  -- The number of bytes behind the front.
-  behind : size ≤ length slot
-      → length (take (length (front ++ drop size slot) - size) (drop size (front ++ drop size slot))) ≡ length slot - size
-  behind h = simp (length-take, length-drop, length-append) (omega arith)
+pub loop-i-init : goal.loop-i-init
+loop-i-init c = (omega arith, refl, refl)
 
-  -- The bytes behind the front are replaced by the rest.
-  replaced : (rest : List ℕ)
-      → put_mid size (length (front ++ drop size slot) - size) (front ++ drop size slot) rest ≡ front ++ rest
-  replaced rest =
-      let old = drop size slot in
-      let none : drop (length (front ++ old) - size) old ≡ [] = drop_of_length-le old (omega (arith, length-append front old)) in
-      rw (take_at front old size long, drop_at front old size long, none, append-nil)
+pub loop-i-preserved : goal.loop-i-preserved
+loop-i-preserved c =
+    let l = c.loop-i in
+    let args = c.args in
+    let byte : c.unwrap_or.result ≡ get_or args.bytes.now l.i 0 = search rules in (
+      omega arith,
+      simp length-set l.invariant.1,
+      rw byte (fill_next (length args.slot.now) args.bytes.now l.slot l.i (omega arith) l.invariant.1 l.invariant.2),
+    )
 
 pub returns : goal.returns
 returns c =
-    let slot = c.args.slot.now in
-    let bytes = c.args.bytes.now in
-    let n = c.min-size.result in
-    let front = c.copy_from_slice.new.self in
-    let size : n ≡ min (length bytes) (length slot) = c.min-size.ensures in
-    let copied : front ≡ take n bytes = c.copy_from_slice.ensures.after in
-    let long : length front ≡ n = ap length copied ∙ length-take-le n bytes (omega (arith, size)) in
-    let zeros : c.fill.new.self ≡ replicate (length slot - n) 0 =
-    c.fill.ensures.after (λ y e. e) ∙ ap (λ (k : ℕ). replicate k 0) (behind n front slot long (omega (arith, size))) in
-    replaced n front slot long c.fill.new.self
-    ∙ rw (copied, zeros, size) (sym (padded_cut (length slot) bytes))
+    let l = c.loop-i in
+    let args = c.args in
+    let p = padded (length args.slot.now) args.bytes.now in
+    sym (take_all l.i l.slot (omega arith)) ∙ l.invariant.2
+    ∙ take_all l.i p (omega (arith, padded_length (length args.slot.now) args.bytes.now))

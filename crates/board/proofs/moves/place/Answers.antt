@@ -1,18 +1,18 @@
 -- `place` meets its contract. Each route that `route_of` finds leads to what `placed_on` gives (`goes`).
 use mathlib.Core.Path.{◌≡◌, sym, ap, ◌∙◌, subst}
-use mathlib.Core.List.{List, ◌++◌}
-use Prim.Native.Nat.{ℕ, ◌+◌, ◌-◌, ◌≤◌}
+use mathlib.Core.List.{List}
+use Prim.Native.Nat.{ℕ, ◌+◌, ◌-◌}
 use native.Mathlib.Omega.{arith}
 use borrow.Rule.Slice.PartMut.{put_mid}
 use lib.ListN.{length, take, drop, length-drop}
 use lib.Seq.{length-take-le}
-use Rattle.std.specs.List.{copy_within}
 use Rattle.records.specs.Layout.{answer_room}
 use Rattle.slots.specs.Slots.{padded, slot_of, content_of}
 use Rattle.board.specs.declared.moves.Route.{Route}
 use Rattle.board.specs.declared.moves.Route.TheVariants.{Joins, Enters, NoneFree}
 use Rattle.board.specs.Board.{joined}
 use Rattle.board.specs.Internals.{route_of, moved_up}
+use Rattle.board.proofs.Moved.{move_length}
 use Rattle.board.proofs.Entered.{Goes, goes}
 use Rattle.board.proofs.moves.place.Goals as goal
 use Rattle.board.proofs.moves.place.Goals.{After-route_of}
@@ -50,29 +50,17 @@ overflow_add-to-in-Enters c =
     let enters = leads found (Enters c.in-Enters.from c.in-Enters.end) c.in-Enters.is in
     omega (arith, enters.rising, enters.fits)
 
-pub copy_within-requires : goal.copy_within-requires
-copy_within-requires c =
-    let found = (goal.at.copy_within-requires c).After-route_of in
+pub move_up-requires : goal.move_up-requires
+move_up-requires c =
+    let found = (goal.at.move_up-requires c).After-route_of in
     let enters = leads found (Enters c.in-Enters.from c.in-Enters.end) c.in-Enters.is in
-    record {
-      start_le_end = enters.rising;
-      in_bounds = omega (arith, enters.fits, c.told-board);
-      dest_in_bounds = omega (arith, enters.rising, enters.fits, c.told-board);
-      not_exhausted = tt;
-    }
+    (enters.rising, omega (arith, enters.fits, c.told-board))
 
 pub slice_bounds-fill-end : goal.slice_bounds-fill-end
 slice_bounds-fill-end c =
     let found = (goal.at.slice_bounds-fill-end c).After-route_of in
     let enters = leads found (Enters c.in-Enters.from c.in-Enters.end) c.in-Enters.is in
     omega (arith, enters.rising, enters.fits, c.told-board)
-
--- The copy moves the slots from `from` up to `end` by one slot.
-copied : (from end : ℕ) (b : List ℕ) → from ≤ end → copy_within b from end (from + answer_room) ≡ moved_up from end b
-unfolding moved_up
-copied from end b h =
-    let behind : from + answer_room + (end - from) ≡ end + answer_room = omega arith in
-    ap (λ (n : ℕ). take (from + answer_room) b ++ take (end - from) (drop from b) ++ drop n b) behind
 
 pub returns-in-Joins : goal.returns-in-Joins
 returns-in-Joins c =
@@ -92,11 +80,11 @@ returns-in-Enters c =
     let end = c.in-Enters.end in
     let b = c.args.board.now in
     let m = c.args.message.now in
-    let l = c.copy_within.new.self in
+    let l = c.move_up.new.board in
     let s = c.fill.new.slot in
     let enters = leads found (Enters from end) c.in-Enters.is in
-    let sized = c.copy_within.ensures.len ∙ c.told-board in
-    let moved : l ≡ moved_up from end b = c.copy_within.ensures.after ∙ copied from end b enters.rising in
+    let moved : l ≡ moved_up from end b = c.move_up.ensures in
+    let sized = ap length moved ∙ move_length from end b enters.rising (omega (arith, enters.fits, c.told-board)) ∙ c.told-board in
     let whole = length-take-le answer_room (drop from l) (omega (arith, length-drop from l, sized, enters.rising, enters.fits)) in
     let long : length (take (from + answer_room - from) (drop from l)) ≡ answer_room =
     ap (λ (n : ℕ). length (take n (drop from l))) (part from) ∙ whole in
