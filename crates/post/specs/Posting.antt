@@ -90,8 +90,8 @@ InputRead xs board after (Ok true) = after ≡ board_after board xs
 InputRead xs board after (Ok false) = Unit {0}
 InputRead xs board after (Err e) = Unit {0}
 
--- The board with every record of the input xs is written, unless a read or write failed or the input has a length that no record can
--- have.
+-- The board with every record of the input xs is written, if the result says that the input was read to its end. For any other result
+-- nothing is promised.
 abbrev pub BoardWritten : (xs : List ℕ) (output after : Option (List ℕ)) → Result Bool Failure → Type 0
 BoardWritten xs output after (Ok true) = Appends output after (board_from xs)
 BoardWritten xs output after (Ok false) = Unit {0}
