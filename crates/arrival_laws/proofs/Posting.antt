@@ -95,38 +95,33 @@ module _ (b new : List ℕ) where
       ⊎_elim (λ n. (omega (arith, n.1, held.1.0), n.0)) (λ s. absurd (omega (arith, s.1, held.1.0)))
       (grown (placing (held_on b) new) held.0)
 
-  pub none_free_exactly : ((post_of b new).posted ≡ Err NoSlotFree)
-      ↔ ((is_board b ≡ true) × (Postable new × ((length (held_on b) ≡ SLOTS) × NoneOf (job_of new) (held_on b))))
+  -- When no slot is free: the bytes are a board, the record is postable, 64 jobs have a slot, and its own job has none.
+  abbrev NoneFree : Type 0
+  NoneFree = (is_board b ≡ true) × (Postable new × ((length (held_on b) ≡ SLOTS) × NoneOf (job_of new) (held_on b)))
+
+  none_free : NoneFree → (post_of b new).posted ≡ Err NoSlotFree
   unfolding placed_on
-  none_free_exactly = (
-    by posting,
-    λ h.
-        let size : ℕ = length (placed (held_on b) new) in
-        let how = grown (placing (held_on b) new) (board_held b h.0).0 in
-        let over : SLOTS < size =
-        ⊎_elim (λ n. omega (arith, n.1, h.1.1.0)) (λ s. absurd (h.1.1.1 s.0.0 s.0.1.0 s.0.1.1)) how in
-        rw (judged h.0 h.1.0, lt-ltb SLOTS size over),
-  )
-    where
-      by : {o : PostResult} → Posting b new o → o.posted ≡ Err NoSlotFree
-          → (is_board b ≡ true) × (Postable new × ((length (held_on b) ≡ SLOTS) × NoneOf (job_of new) (held_on b)))
-      by (no_board f) e = cc
-      by (malformed f g) e = cc
-      by (unnamed f g h) e = cc
-      by (full f postable over) e = (f, (postable, no_room f over))
-      by (taken f postable room) e = cc
+  none_free h =
+      let size : ℕ = length (placed (held_on b) new) in
+      let how = grown (placing (held_on b) new) (board_held b h.0).0 in
+      let over : SLOTS < size =
+      ⊎_elim (λ n. omega (arith, n.1, h.1.1.0)) (λ s. absurd (h.1.1.1 s.0.0 s.0.1.0 s.0.1.1)) how in
+      rw (judged h.0 h.1.0, lt-ltb SLOTS size over)
 
   pub full_exactly : (posted_number (post_of b new).posted ≡ 3)
       ↔ ((is_board b ≡ true) × (Postable new × ((length (held_on b) ≡ SLOTS) × NoneOf (job_of new) (held_on b))))
-  full_exactly = (by numbered, λ h. ap posted_number (none_free_exactly.1 h))
+  full_exactly = (by numbered, λ h. ap posted_number (none_free h))
     where
-      by : {n : ℕ} → Numbered b new n → n ≡ 3
-          → (is_board b ≡ true) × (Postable new × ((length (held_on b) ≡ SLOTS) × NoneOf (job_of new) (held_on b)))
+      by : {n : ℕ} → Numbered b new n → n ≡ 3 → NoneFree
       by (b0 f) e = absurd (omega (arith, e))
       by (b1 f g) e = absurd (omega (arith, e))
       by (b2 f g h) e = absurd (omega (arith, e))
       by (b3 f postable over) e = (f, (postable, no_room f over))
       by (no_refusal f postable room) e = absurd (omega (arith, e))
+
+  pub none_free_exactly : ((post_of b new).posted ≡ Err NoSlotFree)
+      ↔ ((is_board b ≡ true) × (Postable new × ((length (held_on b) ≡ SLOTS) × NoneOf (job_of new) (held_on b))))
+  none_free_exactly = (λ e. full_exactly.0 (ap posted_number e), none_free)
 
   -- A record that does not change what is held for its job is taken, and the board stays as it was.
   pub taken_same : (held : List ℕ) → is_board b ≡ true → Postable new → held ∈ held_on b → job_of held ≡ job_of new → joined held new ≡ held
@@ -205,18 +200,7 @@ from b (m ∷ ms) f all = from (post_of b m).board ms (stays_board b m (all m (h
 pub always_board : (ms : List (List ℕ)) → AllBytes ms → is_board (post_all empty_board ms) ≡ true
 always_board ms all = from empty_board ms starts_board.0 all
 
--- After any messages on the empty board, no record is refused with B0: neither by its name nor by its number.
-pub never_no_board : (ms : List (List ℕ)) (m : List ℕ) → AllBytes ms
-    → (post_of (post_all empty_board ms) m).posted ≡ Err NotABoard → ⊥
-never_no_board ms m all e = by (posting (post_all empty_board ms) m) e
-  where
-    by : {o : PostResult} → Posting (post_all empty_board ms) m o → o.posted ≡ Err NotABoard → ⊥
-    by (no_board f) e = true≢false (sym (always_board ms all) ∙ f)
-    by (malformed f g) e = cc
-    by (unnamed f g h) e = cc
-    by (full f postable over) e = cc
-    by (taken f postable room) e = cc
-
+-- After any messages on the empty board, no record is refused with B0: neither by its number nor by its name.
 pub never_b0 : (ms : List (List ℕ)) (m : List ℕ) → AllBytes ms → posted_number (post_of (post_all empty_board ms) m).posted ≡ 0 → ⊥
 never_b0 ms m all e = by (numbered (post_all empty_board ms) m) e
   where
@@ -226,3 +210,7 @@ never_b0 ms m all e = by (numbered (post_all empty_board ms) m) e
     by (b2 f g h) e = omega (arith, e)
     by (b3 f postable over) e = omega (arith, e)
     by (no_refusal f postable room) e = omega (arith, e)
+
+pub never_no_board : (ms : List (List ℕ)) (m : List ℕ) → AllBytes ms
+    → (post_of (post_all empty_board ms) m).posted ≡ Err NotABoard → ⊥
+never_no_board ms m all e = never_b0 ms m all (ap posted_number e)
