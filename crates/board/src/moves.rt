@@ -121,8 +121,8 @@ fn join(slot: &mut [u8], message: &[u8])
     }
 }
 
-// Moves the bytes `from..end` of the board up by one slot, from the last byte to the first. The library's `copy_within` is a call of
-// `memmove`, and the C interface of the board is to need no function from outside.
+// Moves the bytes `from..end` of the board up by one slot, from the last byte to the first. The library's method `copy_within` calls the C
+// function `memmove`. This loop does not, so the static library of the board needs no C library.
 fn move_up(board: &mut [u8; BOARD_SIZE], from: usize, end: usize)
     requires { (from ≤ end) × (end + answer_room ≤ length board.old) }
     ensures { board.new ≡ moved_up from end board.old }

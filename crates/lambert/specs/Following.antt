@@ -12,7 +12,7 @@ abbrev pub Follows : List ℕ → Result Bool Failure → Type 0
 Follows came (Ok another) = (slot_reply came).another ≡ another
 Follows came (Err e) = Unit {0}
 
--- The output grows by the given bytes, if the result is not that a read or write failed.
+-- Unless the result is a failure, the output grows by the given bytes.
 abbrev pub Grows : (output after : Option (List ℕ)) → List ℕ → Result Bool Failure → Type 0
 Grows output after bytes (Ok another) = Appends output after bytes
 Grows output after bytes (Err e) = Unit {0}
@@ -27,7 +27,7 @@ SlotAnswered xs rest output after (Ok false) =
     Appends output after (slot_record (take question_size xs)) × ((slot_reply (take question_size xs)).another ≡ false)
 SlotAnswered xs rest output after (Err e) = Unit {0}
 
--- The whole input xs is answered, if the result says that no slot follows: the output grows by the records of all its slots. For any
+-- If the result says that no slot follows, the whole input xs is answered: the output grows by the records of all its slots. For any
 -- other result nothing is promised.
 abbrev pub InputAnswered : List ℕ → (output after : Option (List ℕ)) → Result Bool Failure → Type 0
 InputAnswered xs output after (Ok true) = Unit {0}

@@ -90,7 +90,7 @@ InputRead xs board after (Ok true) = after ≡ board_after board xs
 InputRead xs board after (Ok false) = Unit {0}
 InputRead xs board after (Err e) = Unit {0}
 
--- The board with every record of the input xs is written, if the result says that the input was read to its end. For any other result
+-- If the result says that the input was read to its end, the board with every record of the input xs is written. For any other result
 -- nothing is promised.
 abbrev pub BoardWritten : (xs : List ℕ) (output after : Option (List ℕ)) → Result Bool Failure → Type 0
 BoardWritten xs output after (Ok true) = Appends output after (board_from xs)

@@ -1,5 +1,5 @@
-pub mod Filling
 pub mod Padding
 pub mod Zeros
 pub mod Held
 pub mod Conflicts
+mod Filling

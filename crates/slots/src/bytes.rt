@@ -2,8 +2,8 @@
 ghost use Rattle.std.specs.Prelude.{◌≡◌};
 ghost use Rattle.slots.specs.Slots.{is_zero, same_bytes};
 
-// Reports whether all bytes are 0. The loop has no early exit, so LLVM compiles it to tests of many bytes at a time: `all` of an iterator
-// tests them one by one, and a board that is nearly empty has 33,000 zeros.
+// Reports whether all bytes are 0. The loop has no early exit, so that LLVM tests many bytes at a time. The method `all` of an iterator
+// stops at the first byte that fails, so it tests one byte at a time, and a board that is nearly empty has 33,000 zeros.
 pub fn is_zero(s: &[u8]) -> bool
     ensures { result ≡ is_zero s.now }
 {

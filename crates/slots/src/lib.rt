@@ -38,8 +38,9 @@ fn is_conflict(s: &[u8]) -> bool
     (kind_of(s) == CONFLICT_KIND) & outcomes::is_sized(s, CONFLICT_SIZE)
 }
 
-// Fills a slot with the given bytes and with zeros after them. Bytes beyond the end of the slot are left out. The library's
-// `copy_from_slice` and `fill` are calls of `memmove` and `memset`, and the C interface of the board is to need no function from outside.
+// Fills a slot with the given bytes and with zeros after them. Bytes beyond the end of the slot are left out. The library's methods
+// `copy_from_slice` and `fill` call the C functions `memmove` and `memset`. This loop calls neither, so the static library of the board
+// needs no C library.
 pub fn fill(slot: &mut [u8], bytes: &[u8])
     ensures { slot.new ≡ padded (length slot.old) bytes.now }
 {
